@@ -5,10 +5,9 @@ use Rattle.std.proofs.lemmas.List.FromFn.{length-map-range_with_len, map-range_w
 use Rattle.zx_model.specs.Bits.{member}
 use Rattle.zx_model.specs.Phase.{is_odd}
 use Rattle.zx_model.specs.Number.{one}
-use Rattle.zx_calculus.specs.Graph.{XY, Kind, Graph, ids, kind_of, end_vertices, insert_vertex, WellFormed}
+use Rattle.zx_calculus.specs.Graph.{XY, Kind, Graph, ids, kind_of, end_vertices, insert_vertex, WellFormed, plain}
 use Rattle.zx_calculus.specs.Splits.{spider_of_phase_zero, least_free}
 use Rattle.zx_calculus.specs.Turns.{in_plane}
-use Rattle.zx_calculus.specs.Worked.{plain}
 use Rattle.zx_calculus.specs.Counts.{odd_phases}
 use Rattle.zx_calculus.proofs.Ids.{by_equal}
 use Rattle.zx_calculus.proofs.Kept.{all_by}

@@ -2,11 +2,10 @@
 use Rattle.std.proofs.Common.{◌≡◌, ◌≢◌, refl, sym, ◌∙◌, ap, ap₂, subst, ℕ, ◌+◌, Bool, true, false, ◌&&◌, ◌||◌, eqb, [], ◌∷◌, ◌++◌, set, remove, eqb-true, true≢false}
 use Rattle.std.specs.Prelude.{slice_get}
 use Rattle.zx_model.specs.Bits.{xor, member}
-use Rattle.zx_calculus.specs.Graph.{XY, Plane, Kind, End, Graph, ids, kind_of, plane_of, joined, end_vertices, with_kinds, insert_vertex, Live, OrderedEdges, WellFormed}
+use Rattle.zx_calculus.specs.Graph.{XY, Plane, Kind, End, Graph, ids, kind_of, plane_of, joined, end_vertices, with_kinds, insert_vertex, IsVertex, OrderedEdges, WellFormed, plain}
 use Rattle.zx_calculus.specs.Splits.{spider_of_phase_zero, least_free}
 use Rattle.zx_calculus.specs.Edits.{is_pair, IsToggle, at_vertex}
 use Rattle.zx_calculus.specs.Turns.{in_plane, with_phase_added}
-use Rattle.zx_calculus.specs.Worked.{plain}
 use Rattle.zx_calculus.proofs.Booleans.{or-true, or-apart}
 use Rattle.zx_calculus.proofs.Ids.{eqb-self, apart_of_member}
 use Rattle.zx_calculus.proofs.Edges.{joined_comm}
@@ -26,7 +25,7 @@ use Rattle.circuit_graph.proofs.Gates.{least_is}
 use Rattle.circuit_graph.proofs.Beginning.{at_both, next_is, one_more_wire}
 use Rattle.circuit_graph.specs.Internal.Runs.{GraphSoFar, IsReady, IsSpiderStep, IsPhaseStep, IsToggleStep}
 
-pub here_live : (g : Graph) (q u : ℕ) → WellFormed g → HasPlainOutput g q u → Live g u
+pub here_live : (g : Graph) (q u : ℕ) → WellFormed g → HasPlainOutput g q u → IsVertex g u
 here_live g q u w h = output_there g q (plain u) w h
 
 -- of a pair that the new vertex is in no edge is an edge
@@ -46,7 +45,7 @@ module _ (s : Graph) (v phase : ℕ) (g : Graph) (fresh : member v (ids s.vertic
   member_is : (p : ℕ) → member p (ids g.vertices) ≡ (eqb p v || member p (ids s.vertices))
   member_is p = ap (λ vs. member p (ids vs)) vertices_are ∙ member-insert p (spider_of_phase_zero v) s.vertices
 
-  pub new_live : Live g v
+  pub new_live : IsVertex g v
   new_live = member_is v ∙ ap (λ b. b || member v (ids s.vertices)) (eqb-self v)
 
   pub new_plane : plane_of g v ≡ XY
@@ -75,14 +74,14 @@ module _ (s : Graph) (v phase : ℕ) (g : Graph) (fresh : member v (ids s.vertic
 -- ---- H: a vertex is added, joined to the last spider, and takes the output over
 module _ (s : Graph) (q here next phase : ℕ) (g : Graph) (w : WellFormed s) (output : HasPlainOutput s q here) (fresh : member next (ids s.vertices) ≡ false)
     (zero_phase : phase ≡ 0) (added : g ≡ record { vertices = insert_vertex (record { id = next; kind = in_plane XY phase }) s.vertices; edges = s.edges; inputs = s.inputs; outputs = s.outputs }) where
-  pub here_there : Live g here
+  pub here_there : IsVertex g here
   here_there = member_is s next phase g fresh zero_phase added here ∙ ap (λ b. eqb here next || b) (here_live s q here w output) ∙ or-true (eqb here next)
 
   pub here_other : here ≢ next
   here_other = apart_of_member here next (ids s.vertices) (here_live s q here w output) fresh
 
   module _ (h : Graph) (toggle : IsToggle g here next h) where
-    pub next_there : Live h next
+    pub next_there : IsVertex h next
     next_there = ap (λ vs. member next (ids vs)) toggle.vertices ∙ new_live s next phase g fresh zero_phase added
 
     pub next_plane_there : plane_of h next ≡ XY
@@ -126,14 +125,14 @@ module _ (s : Graph) (q here next phase : ℕ) (g : Graph) (w : WellFormed s) (o
 -- the same of a translation under way
 module _ (s : GraphSoFar) (q here next phase : ℕ) (g : Graph) (r : IsReady s) (output : HasPlainOutput s.graph q here) (fresh : member next (ids s.graph.vertices) ≡ false)
     (zero_phase : phase ≡ 0) (added : g ≡ record { vertices = insert_vertex (record { id = next; kind = in_plane XY phase }) s.graph.vertices; edges = s.graph.edges; inputs = s.graph.inputs; outputs = s.graph.outputs }) where
-  pub here_still_live : Live g here
+  pub here_still_live : IsVertex g here
   here_still_live = here_there s.graph q here next phase g r.well_formed output fresh zero_phase added
 
   pub here_apart : here ≢ next
   here_apart = here_other s.graph q here next phase g r.well_formed output fresh zero_phase added
 
   module _ (h : Graph) (toggle : IsToggle g here next h) where
-    pub next_still_live : Live h next
+    pub next_still_live : IsVertex h next
     next_still_live = next_there s.graph q here next phase g r.well_formed output fresh zero_phase added h toggle
 
     pub next_plane : plane_of h next ≡ XY

@@ -6,12 +6,11 @@ use Rattle.std.proofs.lemmas.List.Elements.{All-head, All-tail}
 use Rattle.std.proofs.lemmas.List.FromFn.{length-map-range_with_len}
 use Rattle.zx_model.specs.Phase.{half_turn}
 use Rattle.zx_model.specs.Bits.{member}
-use Rattle.zx_calculus.specs.Graph.{XY, End, Graph, ids, end_vertices, insert_vertex, with_kinds}
+use Rattle.zx_calculus.specs.Graph.{XY, End, Graph, ids, end_vertices, insert_vertex, with_kinds, plain}
 use Rattle.zx_calculus.specs.Splits.{spider_of_phase_zero, least_free}
 use Rattle.zx_calculus.specs.Gadgets.{fuse_kind}
 use Rattle.zx_calculus.specs.Edits.{IsToggle}
 use Rattle.zx_calculus.specs.Turns.{in_plane}
-use Rattle.zx_calculus.specs.Worked.{plain}
 use Rattle.zx_calculus.proofs.LeastFree.{least_free-fresh}
 use Rattle.zx_calculus.proofs.Edits.{insert_kept}
 use Rattle.zx_calculus.proofs.EditPrograms.{toggled, toggled_is_toggle}
@@ -22,7 +21,7 @@ use Rattle.zx_gates.specs.declared.gate.Gate.{Gate}
 use Rattle.zx_gates.specs.declared.gate.Gate.TheVariants.{H, Phase, Cz, Cx, Not}
 use Rattle.circuit_laws.specs.Peeling.{HasPlainOutput}
 use Rattle.circuit_laws.proofs.Places.{plain_at}
-use Rattle.circuit_graph.specs.Translation.{by_hadamards, written_out, present, translated, translated_table, IsTranslation}
+use Rattle.circuit_graph.specs.Translation.{by_hadamards, written_out, last_spider, translated, translated_table, IsTranslation}
 use Rattle.circuit_graph.specs.Internal.Runs.{GraphSoFar, begun, IsReady, IsGateStep, IsRun, Translates}
 use Rattle.circuit_graph.proofs.RunLemmas.{run_comes, run-append}
 use Rattle.circuit_graph.proofs.Calls.{here_live, here_still_live, here_apart, new_live, spider_step, toggle_step, wires_apart}
@@ -45,8 +44,8 @@ output_at (e ∷ es) zero lt = refl
 output_at (e ∷ es) (suc q) lt = output_at es q (omega (arith, lt))
 
 module _ (s : GraphSoFar) (r : IsReady s) where
-  has_output : (q : ℕ) → q < length s.graph.outputs → HasPlainOutput s.graph q (present s.graph q)
-  has_output q lt = plain_at s.graph.outputs q (present s.graph q) r.plain (output_at s.graph.outputs q lt)
+  has_output : (q : ℕ) → q < length s.graph.outputs → HasPlainOutput s.graph q (last_spider s.graph q)
+  has_output q lt = plain_at s.graph.outputs q (last_spider s.graph q) r.plain (output_at s.graph.outputs q lt)
 
   one_step : (gate : Gate) (t : GraphSoFar) → IsGateStep s gate t → HasRun s (gate ∷ [])
   one_step gate t step = record { last = t; run = (t, step, refl) }
@@ -57,7 +56,7 @@ module _ (s : GraphSoFar) (r : IsReady s) where
       (spider_step s q here next 0 g r (has_output q lt) fresh refl refl h toggle t refl refl (record { order = refl; members = λ v w. refl }))
     where
       here : ℕ
-      here = present s.graph q
+      here = last_spider s.graph q
 
       next : ℕ
       next = least_free (ids s.graph.vertices)
@@ -84,8 +83,8 @@ module _ (s : GraphSoFar) (r : IsReady s) where
 
   phase : (q k : ℕ) → q < length s.graph.outputs → HasRun s (Phase q k ∷ [])
   phase q k lt =
-      one_step (Phase q k) (record { graph = record s.graph { vertices = with_kinds (fuse_kind (present s.graph q) k) s.graph.vertices }; table = s.table })
-      (record { peel = record { vertex = present s.graph q; output = has_output q lt; vertices = refl; edges = refl; inputs = refl; outputs = refl }; table = refl })
+      one_step (Phase q k) (record { graph = record s.graph { vertices = with_kinds (fuse_kind (last_spider s.graph q) k) s.graph.vertices }; table = s.table })
+      (record { peel = record { vertex = last_spider s.graph q; output = has_output q lt; vertices = refl; edges = refl; inputs = refl; outputs = refl }; table = refl })
 
   cz : (p q : ℕ) → p < length s.graph.outputs → q < length s.graph.outputs → p ≢ q → HasRun s (Cz p q ∷ [])
   cz p q lt lt' apart =
@@ -95,10 +94,10 @@ module _ (s : GraphSoFar) (r : IsReady s) where
       (wires_apart s.graph p q u v r.well_formed (has_output p lt) (has_output q lt') apart)) refl)
     where
       u : ℕ
-      u = present s.graph p
+      u = last_spider s.graph p
 
       v : ℕ
-      v = present s.graph q
+      v = last_spider s.graph q
 
 -- gates after gates
 then_run : (s : GraphSoFar) (first second : List Gate) (n : ℕ) → IsReady s → length s.graph.outputs ≡ n → HasRun s first →

@@ -5,11 +5,10 @@ use Rattle.std.proofs.Math.ListN.{length-set}
 use Rattle.std.proofs.lemmas.List.{set-set}
 use Rattle.std.specs.Prelude.{slice_get, Some}
 use Rattle.zx_model.specs.Bits.{xor, member}
-use Rattle.zx_calculus.specs.Graph.{XY, Kind, Vertex, End, Graph, ids, kind_of, plane_of, end_vertices, in_order, different, with_kinds, insert_vertex, WellFormed}
+use Rattle.zx_calculus.specs.Graph.{XY, Kind, Vertex, End, Graph, ids, kind_of, plane_of, end_vertices, in_order, different, with_kinds, insert_vertex, WellFormed, plain}
 use Rattle.zx_calculus.specs.Splits.{spider_of_phase_zero, move_end, least_free}
 use Rattle.zx_calculus.specs.Gadgets.{fuse_kind}
 use Rattle.zx_calculus.specs.Turns.{with_phase_added}
-use Rattle.zx_calculus.specs.Worked.{plain}
 use Rattle.zx_calculus.proofs.Ids.{by_equal}
 use Rattle.zx_calculus.proofs.Vertices.{ids-with_kinds, length-with_kinds, kind_of-insert, length-insert, member-insert}
 use Rattle.zx_calculus.proofs.LeastFree.{least_free-unique}
@@ -34,8 +33,8 @@ use Rattle.circuit_laws.proofs.Keeping.{spider_formed, phase_formed, edge_formed
 use Rattle.circuit_laws.proofs.Counts.{same_vertices, phase_odd, spider_odd}
 use Rattle.circuit_laws.proofs.Settling.{phase_peels, edge_peels}
 use Rattle.circuit_laws.proofs.Advancing.{spider_peels}
-use Rattle.circuit_graph.specs.Translation.{present, with_spider}
-use Rattle.circuit_graph.proofs.Graphs.{present_is, spider_is, phase_is, toggle_is}
+use Rattle.circuit_graph.specs.Translation.{last_spider, with_spider}
+use Rattle.circuit_graph.proofs.Graphs.{last_spider_is, spider_is, phase_is, toggle_is}
 use Rattle.circuit_graph.specs.Internal.Runs.{GraphSoFar, AreNumbered, IsReady, IsSpiderStep, IsPhaseStep, IsToggleStep, IsGateStep, Comes}
 
 -- an added phase changes no plane
@@ -108,9 +107,9 @@ spider_ready s q t r c = record {
 }
 
 -- the old spider was the last one, and the new one has the next id
-spider_table : (s : GraphSoFar) (q : ℕ) (t : GraphSoFar) → IsSpiderStep s q t → SameSets t.table (split_output_table (present s.graph q) (length s.graph.vertices) s.table)
+spider_table : (s : GraphSoFar) (q : ℕ) (t : GraphSoFar) → IsSpiderStep s q t → SameSets t.table (split_output_table (last_spider s.graph q) (length s.graph.vertices) s.table)
 spider_table s q t c =
-    subst (λ u. SameSets t.table (split_output_table u (length s.graph.vertices) s.table)) (sym (present_is s.graph.outputs q c.peel.next c.peel.output))
+    subst (λ u. SameSets t.table (split_output_table u (length s.graph.vertices) s.table)) (sym (last_spider_is s.graph.outputs q c.peel.next c.peel.output))
     (subst (λ new. SameSets t.table (split_output_table c.peel.next new s.table)) c.id c.table)
 
 -- no spider is left

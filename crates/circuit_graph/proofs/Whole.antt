@@ -10,10 +10,9 @@ use Rattle.zx_model.proofs.Scalars.{scaled_if, scaled_proportional}
 use Rattle.zx_model.proofs.ProportionalLemmas.{proportional_sym}
 use Rattle.zx_model.proofs.Ring.{one-mul}
 use Rattle.std.proofs.lemmas.List.FromFn.{length-map-range_with_len}
-use Rattle.zx_calculus.specs.Graph.{Graph}
-use Rattle.zx_calculus.specs.Sum.{sum}
+use Rattle.zx_calculus.specs.Graph.{Graph, plain}
+use Rattle.zx_calculus.specs.Sum.{graph_sum}
 use Rattle.zx_calculus.specs.Splits.{spider_of_phase_zero}
-use Rattle.zx_calculus.specs.Worked.{plain}
 use Rattle.zx_gates.specs.Circuit.{Circuit, IsOnQubits}
 use Rattle.zx_gates.specs.Maps.{amp}
 use Rattle.zx_gates.proofs.MapLemmas.{amp-acts}
@@ -29,13 +28,13 @@ use Rattle.circuit_laws.specs.Peeling.{are_plain}
 
 -- a sum that is the circuit's map times its number, by a scalar
 scaled_map : (c : Circuit) (g : Graph) →
-    ((x y : List Bool) → length x ≡ c.qubits → length y ≡ c.qubits → sum g x y ≡ mul (scalar_of c.gates) (amp c.gates x y)) →
-    IsScaled c.qubits c.qubits (amp c.gates) (map_scalar c.gates) (sum g)
+    ((x y : List Bool) → length x ≡ c.qubits → length y ≡ c.qubits → graph_sum g x y ≡ mul (scalar_of c.gates) (amp c.gates x y)) →
+    IsScaled c.qubits c.qubits (amp c.gates) (map_scalar c.gates) (graph_sum g)
 scaled_map c g e =
-    scaled_if c.qubits c.qubits (amp c.gates) (sum g) (map_scalar c.gates) (2 * count) 0 0 exponents refl (λ x y l m.
+    scaled_if c.qubits c.qubits (amp c.gates) (graph_sum g) (map_scalar c.gates) (2 * count) 0 0 exponents refl (λ x y l m.
     ap (λ k. mul k (amp c.gates x y)) (root_of_two_power-twice count ∙ sym (scalar_of-power c.gates))
     ∙ sym (e x y l m)
-    ∙ sym (ap (λ k. mul k (sum g x y)) (one-mul (root_power 0) ∙ root_power-zero) ∙ one-mul (sum g x y)))
+    ∙ sym (ap (λ k. mul k (graph_sum g x y)) (one-mul (root_power 0) ∙ root_power-zero) ∙ one-mul (graph_sum g x y)))
   where
     count : ℕ
     count = written_count c.gates
@@ -77,6 +76,6 @@ run_translates c t r on run = record {
     outputs = comes.outputs ∙ length-map-range_with_len plain 0 c.qubits
 
 -- the sum is the circuit's map, but for a number other than 0
-pub translated_map : (c : Circuit) (t : GraphSoFar) → Translates c t → Proportional c.qubits c.qubits (sum t.graph) (amp c.gates)
+pub translated_map : (c : Circuit) (t : GraphSoFar) → Translates c t → Proportional c.qubits c.qubits (graph_sum t.graph) (amp c.gates)
 translated_map c t e =
-    proportional_sym c.qubits c.qubits (amp c.gates) (sum t.graph) (scaled_proportional c.qubits c.qubits (amp c.gates) (sum t.graph) (map_scalar c.gates) e.scaled)
+    proportional_sym c.qubits c.qubits (amp c.gates) (graph_sum t.graph) (scaled_proportional c.qubits c.qubits (amp c.gates) (graph_sum t.graph) (map_scalar c.gates) e.scaled)

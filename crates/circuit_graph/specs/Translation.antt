@@ -9,13 +9,12 @@ use Rattle.zx_model.specs.Phase.{half_turn}
 use Rattle.zx_model.specs.Scalar.{IsScaled}
 use Rattle.zx_model.specs.declared.scalar.Scalar.{Scalar}
 use Rattle.zx_calculus.specs.Counts.{odd_phases}
-use Rattle.zx_calculus.specs.Graph.{XY, Graph, Live, WellFormed, joined, end_vertices, plane_of, with_kinds}
-use Rattle.zx_calculus.specs.Sum.{sum}
+use Rattle.zx_calculus.specs.Graph.{XY, Graph, IsVertex, WellFormed, joined, end_vertices, plane_of, with_kinds, plain}
+use Rattle.zx_calculus.specs.Sum.{graph_sum}
 use Rattle.zx_calculus.specs.Splits.{spider_of_phase_zero, split_vertices, split_edges}
 use Rattle.zx_calculus.specs.Edits.{is_pair}
 use Rattle.zx_calculus.specs.Gadgets.{fuse_kind}
 use Rattle.zx_calculus.specs.Adjacency.{adjacent_graph}
-use Rattle.zx_calculus.specs.Worked.{plain}
 use Rattle.gflow_laws.specs.Flow.{Correction, IsFlow, SameSets}
 use Rattle.zx_gates.specs.Circuit.{Circuit, gate_odd_phases}
 use Rattle.zx_gates.specs.Counting.{is_h, is_cx, is_not}
@@ -48,8 +47,8 @@ abbrev pub map_scalar : List Gate → Scalar
 map_scalar gates = record { root2 = neg_ℤ (pos (2 * written_count gates)); turn = 0 }
 
 -- the last spider of a wire, which holds its output
-abbrev pub present : Graph → ℕ → ℕ
-present g q = get_or (end_vertices g.outputs) q 0
+abbrev pub last_spider : Graph → ℕ → ℕ
+last_spider g q = get_or (end_vertices g.outputs) q 0
 
 -- n wires alone: a spider of phase 0 for each, with both ends
 abbrev pub wires : ℕ → Graph
@@ -64,18 +63,18 @@ wires n = record {
 abbrev pub with_spider : ℕ → ℕ → Graph → Graph
 with_spider new q g = record g {
   vertices = split_vertices g new;
-  edges = split_edges g (present g q) new;
+  edges = split_edges g (last_spider g q) new;
   outputs = slice_set g.outputs q (plain new);
 }
 
 -- a phase is added to the last spider
 abbrev pub with_phase : ℕ → ℕ → Graph → Graph
-with_phase q k g = record g { vertices = with_kinds (fuse_kind (present g q) k) g.vertices }
+with_phase q k g = record g { vertices = with_kinds (fuse_kind (last_spider g q) k) g.vertices }
 
 -- Cz: an edge between the last spiders comes where there is none, and goes where there is one
 abbrev pub with_toggle : ℕ → ℕ → Graph → Graph
 with_toggle p q g =
-    adjacent_graph g g.vertices (λ v w. xor (joined g.edges v w) (is_pair (present g p) (present g q) v w))
+    adjacent_graph g g.vertices (λ v w. xor (joined g.edges v w) (is_pair (last_spider g p) (last_spider g q) v w))
 
 -- a gate where Cx and Not are written out; the id of a new spider is the number of those before
 abbrev pub with_gate : Graph → Gate → Graph
@@ -91,7 +90,7 @@ translated c = fold with_gate (wires c.qubits) (written_out c.gates)
 
 -- With H the wire leaves its last spider, which is corrected by the next one on the wire, the new one, alone.
 abbrev pub corrected_by : Graph → Gate → List Correction
-corrected_by g (H q) = record { vertex = present g q; members = length g.vertices ∷ [] } ∷ []
+corrected_by g (H q) = record { vertex = last_spider g q; members = length g.vertices ∷ [] } ∷ []
 corrected_by g other = []
 
 -- the same of each gate, in the order of the gates, where these come after the graph
@@ -107,7 +106,7 @@ translated_table c = table_from (wires c.qubits) (written_out c.gates)
 
 -- the vertex to which a gate adds a phase: the last spider of its qubit, where it is a phase gate
 abbrev pub phase_vertex : Graph → Gate → Option ℕ
-phase_vertex g (Phase q k) = Some (present g q)
+phase_vertex g (Phase q k) = Some (last_spider g q)
 phase_vertex g other = None
 
 -- the same of each gate, where the gates come after the graph
@@ -125,11 +124,11 @@ pub record IsTranslation (c : Circuit) (g : Graph) (f : List Correction) : Type 
   pub flow : IsFlow g f
   pub table : SameSets f (translated_table c)
   -- the circuit's map is so many times the sum of the graph
-  pub scaled : IsScaled c.qubits c.qubits (amp c.gates) (map_scalar c.gates) (sum g)
+  pub scaled : IsScaled c.qubits c.qubits (amp c.gates) (map_scalar c.gates) (graph_sum g)
   -- all vertices are spiders, and their ids are 0, 1, 2 and so on
   pub spiders : length g.vertices ≡ spiders_of c
-  pub ids : (v : ℕ) → Live g v → v < length g.vertices
-  pub planes : (v : ℕ) → Live g v → plane_of g v ≡ XY
+  pub ids : (v : ℕ) → IsVertex g v → v < length g.vertices
+  pub planes : (v : ℕ) → IsVertex g v → plane_of g v ≡ XY
   pub odd : odd_phases g ≤ gate_odd_phases c.gates
   -- each qubit has an input and an output, with no Hadamard on them
   pub inputs : length g.inputs ≡ c.qubits

@@ -1,8 +1,8 @@
 -- Circuits and their graphs, written down by hand.
 use Rattle.std.specs.Prelude.{◌+◌, List, [], ◌∷◌}
 use Rattle.zx_model.specs.Phase.{quarter_turn, eighth_turn, opposite_phase}
-use Rattle.zx_calculus.specs.Graph.{XY, Graph}
-use Rattle.zx_calculus.specs.Worked.{vertex, edge, plain, graph}
+use Rattle.zx_calculus.specs.Graph.{XY, Graph, plain}
+use Rattle.zx_calculus.specs.Worked.{vertex, edge, graph}
 use Rattle.gflow_laws.specs.Flow.{Correction}
 use Rattle.zx_gates.specs.Circuit.{Circuit}
 use Rattle.zx_gates.specs.declared.gate.Gate.TheVariants.{H, Phase, Cz, Cx}

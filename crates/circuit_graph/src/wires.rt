@@ -72,13 +72,13 @@ impl Wires {
         ensures { result ≡ phase_vertex self.now.graph.graph gate }
     {
         match gate {
-            Gate::Phase(q, _) => Some(self.present(q)),
+            Gate::Phase(q, _) => Some(self.last_spider(q)),
             _ => None,
         }
     }
 
     // The last spider of a wire.
-    fn present(&self, q: Qubit) -> VertexId
+    fn last_spider(&self, q: Qubit) -> VertexId
         requires ready { IsReady (graph_so_far self.now) }
         requires on_wires { q < length self.now.graph.graph.outputs }
         ensures { HasPlainOutput self.now.graph.graph q result }
@@ -95,7 +95,7 @@ impl Wires {
         ensures outputs { OnOk result (length self.new.graph.graph.outputs ≡
             length self.old.graph.graph.outputs) }
     {
-        let here = self.present(q);
+        let here = self.last_spider(q);
         let next = self.graph.add_vertex(Plane::XY, Sixteenth::new(0))?;
         self.graph.toggle_edge(here, next)?;
         self.graph.move_output(usize::from(q), End::plain(next));
@@ -111,7 +111,7 @@ impl Wires {
         ensures outputs { length self.new.graph.graph.outputs ≡
             length self.old.graph.graph.outputs }
     {
-        let here = self.present(q);
+        let here = self.last_spider(q);
         let (plane, before) = self.graph.weight(here);
         self.graph.set_weight(here, plane, before.add(phase));
     }
@@ -127,8 +127,8 @@ impl Wires {
         ensures outputs { OnOk result (length self.new.graph.graph.outputs ≡
             length self.old.graph.graph.outputs) }
     {
-        let first = self.present(p);
-        let second = self.present(q);
+        let first = self.last_spider(p);
+        let second = self.last_spider(q);
         self.graph.toggle_edge(first, second)
     }
 }

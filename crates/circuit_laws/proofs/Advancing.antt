@@ -6,11 +6,10 @@ use Rattle.std.specs.Prelude.{slice_get, Some}
 use Rattle.zx_model.specs.Bits.{member}
 use Rattle.zx_model.specs.Number.{Number, one, mul}
 use Rattle.zx_model.proofs.Ring.{one-mul}
-use Rattle.zx_calculus.specs.Graph.{End, Graph, end_vertices, in_order, different, WellFormed}
-use Rattle.zx_calculus.specs.Sum.{sum}
+use Rattle.zx_calculus.specs.Graph.{End, Graph, end_vertices, in_order, different, WellFormed, plain}
+use Rattle.zx_calculus.specs.Sum.{graph_sum}
 use Rattle.zx_calculus.proofs.Factors.{split_left}
 use Rattle.zx_calculus.specs.Splits.{IsSplitOutput, move_end, mark_of}
-use Rattle.zx_calculus.specs.Worked.{plain}
 use Rattle.zx_calculus.proofs.Ids.{and-left, and-right, member-different, eqb-self}
 use Rattle.zx_calculus.proofs.Splits.{move_end-absent, split_output_sum}
 use Rattle.zx_gates.specs.Maps.{act}
@@ -77,12 +76,12 @@ module _ (g : Graph) (q : ℕ) (h : Graph) (wh : WellFormed h) (c : IsSpiderPeel
     outputs = sym (ap (λ es. es) (set-set h.outputs q (marked c.next) (plain c.next)) ∙ set_same h.outputs q (plain c.next) c.output);
   }
 
-  same_sum : WellFormed g → (x y : List Bool) → length y ≡ length with_mark.outputs → sum with_mark x y ≡ sum g x y
+  same_sum : WellFormed g → (x y : List Bool) → length y ≡ length with_mark.outputs → graph_sum with_mark x y ≡ graph_sum g x y
   same_sum wg x y l =
-      sym (one-mul (sum with_mark x y))
-      ∙ ap (λ b. mul (split_left b) (sum with_mark x y)) (sym (mark_of-set h.outputs q c.next wh.outputs.one_each c.output))
+      sym (one-mul (graph_sum with_mark x y))
+      ∙ ap (λ b. mul (split_left b) (graph_sum with_mark x y)) (sym (mark_of-set h.outputs q c.next wh.outputs.one_each c.output))
       ∙ split_output_sum with_mark c.next c.spider g x y with_mark_formed wg is_split l
-      ∙ one-mul (sum g x y)
+      ∙ one-mul (graph_sum g x y)
 
   same_length : length with_mark.outputs ≡ length g.outputs
   same_length = length-set h.outputs q (marked c.next) ∙ sym (ap length c.outputs ∙ length-set h.outputs q (plain c.spider))

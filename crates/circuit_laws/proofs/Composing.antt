@@ -6,7 +6,7 @@ use Rattle.zx_model.specs.Proportional.{Proportional}
 use Rattle.zx_model.proofs.Ring.{mul_assoc, mul_left_comm, one-mul, one_nonzero}
 use Rattle.zx_model.proofs.Domain.{mul-nonzero}
 use Rattle.zx_calculus.specs.Graph.{Graph}
-use Rattle.zx_calculus.specs.Sum.{sum}
+use Rattle.zx_calculus.specs.Sum.{graph_sum}
 use Rattle.zx_gates.specs.Maps.{acts, amp}
 use Rattle.zx_gates.specs.declared.gate.Gate.{Gate}
 use Rattle.zx_gates.proofs.MapLemmas.{amp-acts, acts-append}
@@ -15,27 +15,27 @@ use Rattle.circuit_laws.proofs.Totals.{total-map_mul, total_same, total-amp}
 
 -- an entry of the graph's map, by what the identity makes of the output bits
 pub followed-entry : (g : Graph) (x y : List Bool) → length y ≡ length g.outputs →
-    followed g (λ z. amp [] z y) x ≡ sum g x y
+    followed g (λ z. amp [] z y) x ≡ graph_sum g x y
 followed-entry g x y l =
-    ap (λ n. total (map (λ z. mul (sum g x z) (amp [] z y)) (all_labels n))) (sym l) ∙ total-amp (sum g x) y
+    ap (λ n. total (map (λ z. mul (graph_sum g x z) (amp [] z y)) (all_labels n))) (sym l) ∙ total-amp (graph_sum g x) y
 
 pub followed-mul : (g : Graph) (c : Number) (f : List Bool → Number) (x : List Bool) →
     followed g (λ z. mul c (f z)) x ≡ mul c (followed g f x)
 followed-mul g c f x =
-    ap (λ (h : List Bool → Number). total (map h (all_labels (length g.outputs)))) (λ i y. mul_left_comm (sum g x y) c (f y) i)
-    ∙ total-map_mul c (λ y. mul (sum g x y) (f y)) (all_labels (length g.outputs))
+    ap (λ (h : List Bool → Number). total (map h (all_labels (length g.outputs)))) (λ i y. mul_left_comm (graph_sum g x y) c (f y) i)
+    ∙ total-map_mul c (λ y. mul (graph_sum g x y) (f y)) (all_labels (length g.outputs))
 
 -- only lists of as many bits as there are outputs matter
 pub followed_same : (g : Graph) (f h : List Bool → Number) (x : List Bool) →
     ((z : List Bool) → length z ≡ length g.outputs → f z ≡ h z) → followed g f x ≡ followed g h x
-followed_same g f h x e = total_same (length g.outputs) _ _ (λ z l. ap (mul (sum g x z)) (e z l))
+followed_same g f h x e = total_same (length g.outputs) _ _ (λ z l. ap (mul (graph_sum g x z)) (e z l))
 
 -- graphs with equal sums
 pub followed_by_sums : (g h : Graph) (f : List Bool → Number) (x : List Bool) → length h.outputs ≡ length g.outputs →
-    ((y : List Bool) → length y ≡ length g.outputs → sum g x y ≡ sum h x y) → followed g f x ≡ followed h f x
+    ((y : List Bool) → length y ≡ length g.outputs → graph_sum g x y ≡ graph_sum h x y) → followed g f x ≡ followed h f x
 followed_by_sums g h f x outputs e =
     total_same (length g.outputs) _ _ (λ y l. ap (λ s. mul s (f y)) (e y l))
-    ∙ ap (λ n. total (map (λ y. mul (sum h x y) (f y)) (all_labels n))) (sym outputs)
+    ∙ ap (λ n. total (map (λ y. mul (graph_sum h x y) (f y)) (all_labels n))) (sym outputs)
 
 -- with the cost 1
 pub peels_exactly : (g : Graph) (gates : List Gate) (h : Graph) → length h.inputs ≡ length g.inputs →
@@ -104,19 +104,19 @@ peels_other g h gates others d nonzero p e = (peels_at_other p.cost d g h gates 
 
 -- the sum of a graph that is gates is their map
 pub ends_sum : (g : Graph) (gates : List Gate) → (e : Ends g gates) → (x y : List Bool) → length x ≡ length g.inputs →
-    length y ≡ length g.outputs → sum g x y ≡ mul e.cost (amp gates x y)
+    length y ≡ length g.outputs → graph_sum g x y ≡ mul e.cost (amp gates x y)
 ends_sum g gates e x y l m = sym (followed-entry g x y m) ∙ e.equal (λ z. amp [] z y) x l ∙ ap (mul e.cost) (sym (amp-acts gates x y))
 
 pub ends_at_sum : (c : Number) (g : Graph) (gates : List Gate) → EndsAt c g gates → (x y : List Bool) →
-    length x ≡ length g.inputs → length y ≡ length g.outputs → sum g x y ≡ mul c (amp gates x y)
+    length x ≡ length g.inputs → length y ≡ length g.outputs → graph_sum g x y ≡ mul c (amp gates x y)
 ends_at_sum c g gates e x y l m = ends_sum g gates e.0 x y l m ∙ ap (λ b. mul b (amp gates x y)) e.1
 
 pub ends_proportional : (g : Graph) (gates : List Gate) → Ends g gates →
-    Proportional (length g.inputs) (length g.outputs) (sum g) (amp gates)
+    Proportional (length g.inputs) (length g.outputs) (graph_sum g) (amp gates)
 ends_proportional g gates e = record {
   left = one;
   right = e.cost;
   left_nonzero = one_nonzero;
   right_nonzero = e.nonzero;
-  equal = λ x y l m. one-mul (sum g x y) ∙ ends_sum g gates e x y l m;
+  equal = λ x y l m. one-mul (graph_sum g x y) ∙ ends_sum g gates e x y l m;
 }

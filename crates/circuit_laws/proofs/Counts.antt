@@ -4,13 +4,12 @@ use Rattle.std.specs.Prelude.{slice_get}
 use Rattle.zx_model.specs.Phase.{turn, sum_of_phases, is_odd}
 use Rattle.zx_model.specs.Bits.{member, one_if}
 use Rattle.zx_model.proofs.Odd.{is_odd-sum_even, one_if-odd_sum}
-use Rattle.zx_calculus.specs.Graph.{YZ, Distinct, Vertex, End, Graph, ids, kind_of, plane_of, phase_of, with_kinds, without, WellFormed}
+use Rattle.zx_calculus.specs.Graph.{YZ, Distinct, Vertex, End, Graph, ids, kind_of, plane_of, phase_of, with_kinds, without, WellFormed, plain}
 use Rattle.zx_calculus.specs.Turns.{with_phase_added}
 use Rattle.zx_calculus.specs.Edits.{IsRemoval}
 use Rattle.zx_calculus.specs.Gadgets.{fuse_kind}
 use Rattle.zx_calculus.specs.Splits.{spider_of_phase_zero}
 use Rattle.zx_calculus.specs.Counts.{odd_phases}
-use Rattle.zx_calculus.specs.Worked.{plain}
 use Rattle.zx_calculus.proofs.Ids.{apart_of_member, eqb-self}
 use Rattle.zx_calculus.proofs.Vertices.{ids-with_kinds, with_kinds-unchanged, at_front-with_kinds}
 use Rattle.zx_calculus.proofs.Splitting.{distinct, member-without}

@@ -10,11 +10,10 @@ use Rattle.zx_model.proofs.Powers.{root_power-zero}
 use Rattle.zx_model.proofs.SumLemmas.{labelled-same, labelled-other, labelled-labelled, sum_over_same, sum_over_mul}
 use Rattle.zx_calculus.specs.Parity.{masked}
 use Rattle.zx_calculus.specs.Internal.Pairs.{quad}
-use Rattle.zx_calculus.specs.Graph.{YZ, Vertex, End, Graph, ids, kind_of, plane_of, phase_of, joined, end_vertices, is_XY, in_order, different, without, Distinct, WellFormed, Interior}
+use Rattle.zx_calculus.specs.Graph.{YZ, Vertex, End, Graph, ids, kind_of, plane_of, phase_of, joined, end_vertices, is_XY, in_order, different, without, Distinct, WellFormed, Interior, plain}
 use Rattle.zx_calculus.specs.Edits.{IsRemoval}
 use Rattle.zx_calculus.specs.Sum.{factor, spider, vertex_product, end_product}
 use Rattle.zx_model.specs.Constants.{two}
-use Rattle.zx_calculus.specs.Worked.{plain}
 use Rattle.zx_calculus.proofs.Booleans.{parities, or-apart, xor-false}
 use Rattle.zx_calculus.proofs.Ids.{by_equal, or-left, or-right, and-left, and-right, apart_of_member, masked_front}
 use Rattle.zx_calculus.proofs.Parity.{masked-xor, masked_same, masked-false}

@@ -6,8 +6,7 @@ use Rattle.std.proofs.lemmas.Option.{slice_get_within}
 use Rattle.std.specs.Prelude.{slice_get, Some}
 use Rattle.std.specs.List.{All, AllZip}
 use Rattle.zx_model.specs.Bits.{member}
-use Rattle.zx_calculus.specs.Graph.{End, Graph, phase_of, Distinct}
-use Rattle.zx_calculus.specs.Worked.{plain}
+use Rattle.zx_calculus.specs.Graph.{End, Graph, phase_of, Distinct, plain}
 use Rattle.zx_calculus.proofs.Ids.{by_equal, or-left, or-right}
 use Rattle.zx_gates.specs.Circuit.{IsOnQubits}
 use Rattle.zx_gates.specs.declared.gate.Gate.{Gate}

@@ -4,11 +4,10 @@ use Rattle.std.proofs.lemmas.List.{set-set}
 use Rattle.std.specs.Prelude.{slice_get, Some}
 use Rattle.std.specs.List.{list_all}
 use Rattle.zx_model.specs.Bits.{member}
-use Rattle.zx_calculus.specs.Graph.{YZ, Vertex, End, Graph, ids, kind_of, plane_of, is_XY, end_vertices, in_order, different, without, WellFormed, OrderedEdges, OrderedEnds}
+use Rattle.zx_calculus.specs.Graph.{YZ, Vertex, End, Graph, ids, kind_of, plane_of, is_XY, end_vertices, in_order, different, without, WellFormed, OrderedEdges, OrderedEnds, plain}
 use Rattle.zx_calculus.specs.Splits.{spider_of_phase_zero}
 use Rattle.zx_calculus.specs.Edits.{IsRemoval}
 use Rattle.zx_calculus.specs.Gadgets.{fuse_kind}
-use Rattle.zx_calculus.specs.Worked.{plain}
 use Rattle.zx_calculus.proofs.Booleans.{or-true}
 use Rattle.zx_calculus.proofs.Ids.{by_test, by_equal, and-left, and-right, or-left, or-right, member-different, apart_of_member, member-removed_other}
 use Rattle.zx_calculus.proofs.Forms.{ids-without}

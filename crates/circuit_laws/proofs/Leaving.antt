@@ -7,9 +7,8 @@ use Rattle.zx_model.specs.Sums.{total, all_labels, labelled}
 use Rattle.zx_model.proofs.Ring.{expand, sorted, mul_assoc, one-mul}
 use Rattle.zx_model.proofs.SumLemmas.{labelled-same, labelled-other, sum_over_same}
 use Rattle.zx_calculus.specs.Internal.Pairs.{quad}
-use Rattle.zx_calculus.specs.Graph.{End, Graph, ids, joined, end_vertices, in_order, different, WellFormed}
+use Rattle.zx_calculus.specs.Graph.{End, Graph, ids, joined, end_vertices, in_order, different, WellFormed, plain}
 use Rattle.zx_calculus.specs.Sum.{spider, vertex_product, end_factor, end_product}
-use Rattle.zx_calculus.specs.Worked.{plain}
 use Rattle.zx_calculus.proofs.Ids.{by_equal, or-left, or-right, and-left, and-right, member-different}
 use Rattle.zx_calculus.proofs.Forms.{form, value, at_ends, sum_is_form}
 use Rattle.zx_gates.specs.Maps.{act, phase}

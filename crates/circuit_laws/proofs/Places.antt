@@ -4,12 +4,11 @@ use Rattle.std.specs.Prelude.{slice_get, Some}
 use Rattle.std.specs.List.{list_all}
 use Rattle.std.proofs.lemmas.Option.{same_Some}
 use Rattle.zx_model.specs.Bits.{member}
-use Rattle.zx_calculus.specs.Graph.{Vertex, End, Graph, ids, end_vertices, in_order, different, WellFormed, OrderedEnds, XY, plane_of, kind_of, is_XY}
+use Rattle.zx_calculus.specs.Graph.{Vertex, End, Graph, ids, end_vertices, in_order, different, WellFormed, OrderedEnds, XY, plane_of, kind_of, is_XY, plain}
 use Rattle.zx_calculus.proofs.Booleans.{or-true}
 use Rattle.zx_calculus.proofs.Ids.{and-left, and-right, not-true, or-left, or-right}
 use Rattle.zx_calculus.proofs.Splitting.{all_at, plane_XY}
 use Rattle.circuit_laws.specs.Peeling.{are_plain}
-use Rattle.zx_calculus.specs.Worked.{plain}
 
 pub first_is : (e d : End) → Some e ≡ Some d → e ≡ d
 first_is e d h = cc

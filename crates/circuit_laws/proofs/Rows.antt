@@ -8,9 +8,8 @@ use Rattle.zx_model.proofs.Ring.{expand}
 use Rattle.zx_model.proofs.SumLemmas.{labelled-same, labelled-other, labelled-labelled, sum_over_same}
 use Rattle.zx_calculus.specs.Parity.{masked}
 use Rattle.zx_calculus.specs.Internal.Pairs.{quad}
-use Rattle.zx_calculus.specs.Graph.{Vertex, Graph, ids, kind_of, joined, end_vertices, is_XY, without, Distinct, WellFormed}
+use Rattle.zx_calculus.specs.Graph.{Vertex, Graph, ids, kind_of, joined, end_vertices, is_XY, without, Distinct, WellFormed, plain}
 use Rattle.zx_calculus.specs.Sum.{factor, vertex_product, end_product}
-use Rattle.zx_calculus.specs.Worked.{plain}
 use Rattle.zx_calculus.proofs.Booleans.{parities, xor-false}
 use Rattle.zx_calculus.proofs.Ids.{by_equal, apart_of_member, eqb_comm, Symmetric, member-removed_other}
 use Rattle.zx_calculus.proofs.Parity.{quad-xor, masked_same, masked-false, cross_identity}

@@ -7,10 +7,9 @@ use Rattle.zx_model.specs.Sums.{sum_over}
 use Rattle.zx_model.proofs.Ring.{sorted, mul-sign}
 use Rattle.zx_model.proofs.SumLemmas.{sum_over_same}
 use Rattle.zx_calculus.specs.Internal.Pairs.{quad}
-use Rattle.zx_calculus.specs.Graph.{Graph, ids, joined, with_kinds, WellFormed}
+use Rattle.zx_calculus.specs.Graph.{Graph, ids, joined, with_kinds, WellFormed, plain}
 use Rattle.zx_calculus.specs.Gadgets.{fuse_kind}
 use Rattle.zx_calculus.specs.Sum.{vertex_product, end_product}
-use Rattle.zx_calculus.specs.Worked.{plain}
 use Rattle.zx_calculus.proofs.Forms.{value}
 use Rattle.zx_calculus.proofs.Vertices.{ids-with_kinds}
 use Rattle.zx_calculus.proofs.Splitting.{distinct}

@@ -9,7 +9,7 @@ use Rattle.zx_model.proofs.Ring.{one_nonzero, mul-zero, two_nonzero}
 use Rattle.std.specs.List.{list_all}
 use Rattle.zx_calculus.specs.Graph.{XY, Vertex, Edge, End, Graph, ids, joined, joins, kind_of, is_XY, end_vertices, in_order, different, edge_before, WellFormed, OrderedEdges, OrderedEnds}
 use Rattle.zx_calculus.specs.Turns.{in_plane}
-use Rattle.zx_calculus.specs.Sum.{sum}
+use Rattle.zx_calculus.specs.Sum.{graph_sum}
 use Rattle.zx_calculus.specs.Worked.{edge}
 use Rattle.zx_calculus.proofs.Booleans.{or-false, and_comm, and-true, and-false, xor_comm}
 use Rattle.zx_calculus.proofs.Ids.{eqb_comm, and-left, and-right}
@@ -75,10 +75,10 @@ no_phase false true = refl
 no_phase false false = refl
 
 -- ---- the Bell pair
-pub bell_entries : Proportional 2 2 (sum bell_pair) (amp (H 0 ∷ Cx 0 1 ∷ []))
+pub bell_entries : Proportional 2 2 (graph_sum bell_pair) (amp (H 0 ∷ Cx 0 1 ∷ []))
 unfolding add mul neg root_power add_cyclotomic mul_cyclotomic neg_cyclotomic
 bell_entries =
-    two_qubit_entries one (add one one) one_nonzero two_nonzero (sum bell_pair) (amp (H 0 ∷ Cx 0 1 ∷ []))
+    two_qubit_entries one (add one one) one_nonzero two_nonzero (graph_sum bell_pair) (amp (H 0 ∷ Cx 0 1 ∷ []))
     ((refl, refl, refl, refl), (refl, refl, refl, refl), (refl, refl, refl, refl), (refl, refl, refl, refl))
 
 bell_formed : WellFormed bell_pair
@@ -141,7 +141,7 @@ gadget_of_two k = record {
     none : (a b c d : Bool) → (((a && false) || (b && false)) || (((c && false) || (d && false)) || false)) ≡ false
     none a b c d = simp and-false
 
-pub gadget_entries : Proportional 2 2 (sum (wires_with_gadget eighth_turn)) (amp (Cx 1 0 ∷ Phase 0 eighth_turn ∷ Cx 1 0 ∷ []))
+pub gadget_entries : Proportional 2 2 (graph_sum (wires_with_gadget eighth_turn)) (amp (Cx 1 0 ∷ Phase 0 eighth_turn ∷ Cx 1 0 ∷ []))
 gadget_entries =
     ends_proportional wires (Cx 1 0 ∷ Phase 0 eighth_turn ∷ Cx 1 0 ∷ [])
     (peels_end wires two_wires [] (Cx 1 0 ∷ Phase 0 eighth_turn ∷ Cx 1 0 ∷ [])
@@ -214,10 +214,10 @@ pub not_reversed : Peels before_addition (Cx 1 0 ∷ []) after_addition → ⊥
 not_reversed p = one_nonzero (sym entry_before ∙ p.equal (λ z. amp [] z (false ∷ true ∷ [])) (false ∷ false ∷ []) ∙ ap (mul p.cost) entry_after ∙ mul-zero p.cost)
 
 -- ---- an exchange
-pub crossing_entries : Proportional 2 2 (sum crossing) (amp (exchange_gates 0 1))
+pub crossing_entries : Proportional 2 2 (graph_sum crossing) (amp (exchange_gates 0 1))
 unfolding add mul neg root_power add_cyclotomic mul_cyclotomic neg_cyclotomic
 crossing_entries =
-    two_qubit_entries one one one_nonzero one_nonzero (sum crossing) (amp (exchange_gates 0 1))
+    two_qubit_entries one one one_nonzero one_nonzero (graph_sum crossing) (amp (exchange_gates 0 1))
     ((refl, refl, refl, refl), (refl, refl, refl, refl), (refl, refl, refl, refl), (refl, refl, refl, refl))
 
 pub crossing_exchanged : IsExchange crossing 0 1 two_wires

@@ -4,10 +4,9 @@ use Rattle.std.proofs.lemmas.List.{set-set}
 use Rattle.std.specs.Prelude.{slice_get}
 use Rattle.zx_model.specs.Phase.{turn, sum_of_phases}
 use Rattle.zx_model.specs.Bits.{member}
-use Rattle.zx_calculus.specs.Graph.{XY, Kind, Vertex, Graph, ids, kind_of, plane_of, phase_of, joined, end_vertices, is_XY, with_kinds, insert_vertex, WellFormed, Distinct}
+use Rattle.zx_calculus.specs.Graph.{XY, Kind, Vertex, Graph, ids, kind_of, plane_of, phase_of, joined, end_vertices, is_XY, with_kinds, insert_vertex, WellFormed, Distinct, plain}
 use Rattle.zx_calculus.specs.Turns.{in_plane, with_phase_added}
 use Rattle.zx_calculus.specs.Gadgets.{fuse_kind}
-use Rattle.zx_calculus.specs.Worked.{plain}
 use Rattle.zx_calculus.proofs.Booleans.{or-true}
 use Rattle.zx_calculus.proofs.Ids.{by_test, and-left, and-right, apart_of_member, eqb-self, eqb_comm, member-removed_other}
 use Rattle.zx_calculus.proofs.Forms.{ids-without}

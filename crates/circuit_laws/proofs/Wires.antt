@@ -11,9 +11,8 @@ use Rattle.zx_model.proofs.Ring.{expand, mul_assoc, one-mul, one_nonzero}
 use Rattle.zx_model.proofs.Powers.{root_power-zero}
 use Rattle.zx_model.proofs.SumLemmas.{labelled-same, labelled-other, sum_over_same, sum_over_add, sum_over_mul}
 use Rattle.zx_calculus.specs.Internal.Pairs.{quad}
-use Rattle.zx_calculus.specs.Graph.{Plane, XY, XZ, YZ, Kind, Vertex, End, Graph, ids, kind_of, is_XY, joined, end_vertices, in_order, different, WellFormed}
+use Rattle.zx_calculus.specs.Graph.{Plane, XY, XZ, YZ, Kind, Vertex, End, Graph, ids, kind_of, is_XY, joined, end_vertices, in_order, different, WellFormed, plain}
 use Rattle.zx_calculus.specs.Sum.{factor, factor_in, vertex_product, end_factor, end_product}
-use Rattle.zx_calculus.specs.Worked.{plain}
 use Rattle.zx_calculus.proofs.Booleans.{parities, or-true}
 use Rattle.zx_calculus.proofs.Ids.{by_test, by_equal, and-left, and-right, not-true, member-different, Distinct, removed, member-removed, member-removed_other, Distinct-removed, eqb-self, apart_of_member}
 use Rattle.zx_calculus.proofs.Parity.{masked_same, masked-false}

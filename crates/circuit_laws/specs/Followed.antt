@@ -5,14 +5,14 @@ use Rattle.std.specs.Prelude.{◌≡◌, ◌≢◌, ℕ, Bool, List, map, length
 use Rattle.zx_model.specs.Number.{Number, zero, mul}
 use Rattle.zx_model.specs.Sums.{total, all_labels}
 use Rattle.zx_calculus.specs.Graph.{Graph}
-use Rattle.zx_calculus.specs.Sum.{sum}
+use Rattle.zx_calculus.specs.Sum.{graph_sum}
 use Rattle.zx_gates.specs.Maps.{acts}
 use Rattle.zx_gates.specs.declared.gate.Gate.{Gate}
 
 -- What comes after a graph is a function f of its output bits. Before the graph it is this function of the input
 -- bits: over all output bits, the sum of the graph times f.
 abbrev pub followed : Graph → (List Bool → Number) → List Bool → Number
-followed g f x = total (map (λ y. mul (sum g x y) (f y)) (all_labels (length g.outputs)))
+followed g f x = total (map (λ y. mul (graph_sum g x y) (f y)) (all_labels (length g.outputs)))
 
 -- g is h followed by the gates, up to the cost: the gates can be peeled off the outputs of g, which leaves h
 pub record Peels (g : Graph) (gates : List Gate) (h : Graph) : Type 0 where

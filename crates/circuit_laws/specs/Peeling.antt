@@ -5,13 +5,14 @@ use Rattle.std.specs.Prelude.{◌≡◌, ◌≢◌, ℕ, Bool, true, false, not,
 use Rattle.std.specs.Prelude.{if◌then◌else◌, ◌==◌}
 use Rattle.std.specs.List.{list_all, AllZip}
 use Rattle.zx_model.specs.Bits.{xor, member}
-use Rattle.zx_calculus.specs.Graph.{YZ, Kind, End, Graph, ids, joined, plane_of, phase_of, end_vertices, Live, Distinct}
+use Rattle.zx_calculus.specs.Graph.{YZ, Kind, End, Graph, ids, joined, plane_of, phase_of, end_vertices, IsVertex}
+use Rattle.zx_calculus.specs.Graph.{plain}
+use Rattle.zx_calculus.specs.Graph.{Distinct}
 use Rattle.zx_calculus.specs.Graph.{OrderedEdges, with_kinds, without, insert_vertex}
 use Rattle.zx_calculus.specs.Turns.{in_plane}
 use Rattle.zx_calculus.specs.Splits.{spider_of_phase_zero}
 use Rattle.zx_calculus.specs.Edits.{KeepsEnds, IsRemoval, is_pair}
 use Rattle.zx_calculus.specs.Gadgets.{fuse_kind}
-use Rattle.zx_calculus.specs.Worked.{plain}
 use Rattle.gflow_laws.specs.Outputs.{row_added}
 
 -- all ends are plain
@@ -127,8 +128,8 @@ pub record IsExchange (g : Graph) (p q : ℕ) (h : Graph) : Type 0 where
 -- wires alone: each vertex has phase 0, an input and an output, both at the same place in their lists; there are no
 -- edges, and the outputs are plain
 pub record IsWires (g : Graph) : Type 0 where
-  pub phase : (u : ℕ) → Live g u → phase_of g u ≡ 0
-  pub output : (u : ℕ) → Live g u → member u (end_vertices g.outputs) ≡ true
+  pub phase : (u : ℕ) → IsVertex g u → phase_of g u ≡ 0
+  pub output : (u : ℕ) → IsVertex g u → member u (end_vertices g.outputs) ≡ true
   pub in_line : end_vertices g.inputs ≡ end_vertices g.outputs
   pub plain_outputs : list_all (λ e. not e.hadamard) g.outputs ≡ true
   pub no_edges : (p q : ℕ) → joined g.edges p q ≡ false

@@ -1,7 +1,7 @@
 -- Small graphs and their gates.
 use Rattle.std.specs.Prelude.{ℕ, [], ◌∷◌}
-use Rattle.zx_calculus.specs.Graph.{XY, YZ, Graph}
-use Rattle.zx_calculus.specs.Worked.{vertex, edge, plain, graph}
+use Rattle.zx_calculus.specs.Graph.{XY, YZ, Graph, plain}
+use Rattle.zx_calculus.specs.Worked.{vertex, edge, graph}
 use Rattle.circuit_laws.specs.Peeling.{marked}
 
 -- two spiders, both inputs and the second output after a Hadamard, and an edge: a Bell pair is made of two bits

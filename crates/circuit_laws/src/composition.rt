@@ -6,7 +6,7 @@ ghost use Rattle.zx_model.specs.Phase.{half_turn};
 ghost use Rattle.zx_model.specs.Proportional.{Proportional};
 ghost use Rattle.zx_calculus.specs.Graph.{Graph};
 ghost use Rattle.zx_model.specs.Constants.{two};
-ghost use Rattle.zx_calculus.specs.Sum.{sum};
+ghost use Rattle.zx_calculus.specs.Sum.{graph_sum};
 ghost use Rattle.zx_gates.specs.Maps.{amp};
 ghost use Rattle.circuit_laws.specs.Followed.{followed, Peels, PeelsAt, Ends, EndsAt, IsMultiple};
 
@@ -38,12 +38,12 @@ pub fn costs_multiply()
 /// What a graph makes of functions of its output bits has its sum in it, and a graph that is gates has their map.
 pub fn the_sum_of_peeled_graphs()
     ensures entry { (g : Graph) (x y : List Bool) → length y ≡ length g.outputs →
-        followed g (λ z. amp [] z y) x ≡ sum g x y }
+        followed g (λ z. amp [] z y) x ≡ graph_sum g x y }
     ensures map { (g : Graph) (gates : List Gate) → Ends g gates →
-        Proportional (length g.inputs) (length g.outputs) (sum g) (amp gates) }
+        Proportional (length g.inputs) (length g.outputs) (graph_sum g) (amp gates) }
     ensures exact { (c : Number) (g : Graph) (gates : List Gate) → EndsAt c g gates →
         (x y : List Bool) → length x ≡ length g.inputs → length y ≡ length g.outputs →
-        sum g x y ≡ mul c (amp gates x y) }
+        graph_sum g x y ≡ mul c (amp gates x y) }
 {}
 
 /// Cx is H, Cz and H, and Not is H, a half turn and H, with a factor two.

@@ -3,7 +3,7 @@
 ghost use Rattle.std.specs.Prelude.{ℕ, ◌<◌, [], ◌∷◌};
 ghost use Rattle.zx_model.specs.Phase.{turn, eighth_turn};
 ghost use Rattle.zx_model.specs.Proportional.{Proportional};
-ghost use Rattle.zx_calculus.specs.Sum.{sum};
+ghost use Rattle.zx_calculus.specs.Sum.{graph_sum};
 ghost use Rattle.zx_gates.specs.Maps.{amp};
 ghost use Rattle.circuit_laws.specs.Followed.{Peels, Ends};
 ghost use Rattle.circuit_laws.specs.Peeling.{IsMarkPeel, IsEdgePeel, IsGadgetPeel, IsLinkedGadgetPeel, IsRowAddition, IsExchange, IsAdvance, IsWires};
@@ -14,7 +14,7 @@ use zx_gates::Gate;
 
 /// A Bell pair is made by H and Cx: entry by entry, and by what is peeled off its graph.
 pub fn bell_pair_is_h_and_cx()
-    ensures entries { Proportional 2 2 (sum bell_pair) (amp (Gate.H 0 ∷ Gate.Cx 0 1 ∷ [])) }
+    ensures entries { Proportional 2 2 (graph_sum bell_pair) (amp (Gate.H 0 ∷ Gate.Cx 0 1 ∷ [])) }
     ensures mark { IsMarkPeel bell_pair 1 bell_unmarked }
     ensures edge { IsEdgePeel bell_unmarked 0 1 bell_wires }
     ensures wires { IsWires bell_wires }
@@ -23,7 +23,7 @@ pub fn bell_pair_is_h_and_cx()
 
 /// A gadget on two wires is a phase gate between two Cx.
 pub fn gadget_is_a_phase_between_two_cx()
-    ensures entries { Proportional 2 2 (sum (wires_with_gadget eighth_turn))
+    ensures entries { Proportional 2 2 (graph_sum (wires_with_gadget eighth_turn))
         (amp (Gate.Cx 1 0 ∷ Gate.Phase 0 eighth_turn ∷ Gate.Cx 1 0 ∷ [])) }
     ensures gadget { (k : ℕ) → IsGadgetPeel (wires_with_gadget k) 2 (0 ∷ 1 ∷ []) two_wires }
 {}
@@ -37,7 +37,7 @@ pub fn the_direction_of_an_added_row()
 
 /// Wires that cross are exchanged by three Cx.
 pub fn crossing_wires_are_three_cx()
-    ensures entries { Proportional 2 2 (sum crossing) (amp (exchange_gates 0 1)) }
+    ensures entries { Proportional 2 2 (graph_sum crossing) (amp (exchange_gates 0 1)) }
     ensures exchange { IsExchange crossing 0 1 two_wires }
 {}
 

@@ -2,7 +2,7 @@
 
 ghost use Rattle.std.specs.Prelude.{◌≡◌, ◌+◌, ◌≤◌, ℕ, false, List, [], ◌∷◌};
 ghost use Rattle.zx_model.specs.Bits.{member};
-ghost use Rattle.zx_calculus.specs.Graph.{XY, Graph, end_vertices, plane_of, phase_of, Live, WellFormed, End};
+ghost use Rattle.zx_calculus.specs.Graph.{XY, Graph, end_vertices, plane_of, phase_of, IsVertex, WellFormed, End};
 ghost use Rattle.zx_calculus.specs.Counts.{odd_phases};
 ghost use Rattle.zx_gates.specs.Circuit.{gate_odd_phases};
 ghost use Rattle.circuit_laws.specs.Gates.{hadamards_from, gadget_gates, linked_gadget_gates};
@@ -32,7 +32,7 @@ pub fn peeled_gates_keep_form()
     ensures mark { (g : Graph) (q : ℕ) (h : Graph) → WellFormed g → IsMarkPeel g q h →
         WellFormed h }
     ensures spider { (g : Graph) (q : ℕ) (h : Graph) → WellFormed g → (c : IsSpiderPeel g q h) →
-        member c.spider (end_vertices g.inputs) ≡ false → Live h c.next → plane_of h c.next ≡ XY →
+        member c.spider (end_vertices g.inputs) ≡ false → IsVertex h c.next → plane_of h c.next ≡ XY →
         member c.next (end_vertices g.outputs) ≡ false → WellFormed h }
     ensures row { (g : Graph) (c t : ℕ) (h : Graph) → WellFormed g → IsRowAddition g c t h →
         WellFormed h }

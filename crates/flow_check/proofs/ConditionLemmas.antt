@@ -6,12 +6,12 @@ use Rattle.zx_calculus.specs.Graph.{Graph, Plane, XY, XZ, YZ, is_XY, is_XZ, is_Y
 use Rattle.zx_calculus.proofs.Ids.{by_equal, by_test, eqb-self, or-left, or-right, and-left}
 use Rattle.zx_calculus.proofs.Kept.{all_by}
 use Rattle.zx_calculus.proofs.Splitting.{all_at}
-use Rattle.gflow_laws.specs.Seen.{Seen, seen, odd}
+use Rattle.gflow_laws.specs.Seen.{Seen, seen, in_odd_neighbourhood}
 use Rattle.gflow_laws.specs.Flow.{Correction, order_of, set_of, is_in, is_later, input_holds, order_holds, odd_holds, IsTableOf}
 use Rattle.zx_flow.proofs.MemberLemmas.{parity-absent}
 use Rattle.flow_check.specs.declared.verdict.Condition.{Condition}
 use Rattle.flow_check.specs.declared.verdict.Condition.TheVariants as condition
-use Rattle.flow_check.specs.Failures.{holds, conditions, IsFirstToFail}
+use Rattle.flow_check.specs.Failures.{condition_holds, conditions, IsFirstToFail}
 use Rattle.flow_check.specs.Internal.Conditions.{holds_in_plane, plane_test}
 
 same_test : (p q : ℕ → Bool) (xs : List ℕ) → ((x : ℕ) → p x ≡ q x) → list_all p xs ≡ list_all q xs
@@ -50,29 +50,29 @@ not_passed (x ∷ before) after v w out =
 -- a test of two sets tells whether a condition holds
 module _ (s : Seen) (table : List Correction) (v : ℕ) (members : List ℕ) (is_set : members ≡ set_of table v) where
   pub input_told : {apart told : Bool} (inputs : List ℕ) → ((w : ℕ) → member w inputs ≡ s.input w) →
-      apart ≡ list_all (λ w. not (member w inputs)) members → apart ≡ told → holds s table v condition.Input ≡ told
+      apart ≡ list_all (λ w. not (member w inputs)) members → apart ≡ told → condition_holds s table v condition.Input ≡ told
   input_told inputs tells tested is =
       ap (input_holds s) (sym is_set) ∙ same_test (λ w. not (s.input w)) _ members (λ w. ap not (sym (tells w))) ∙ sym tested ∙ is
 
   module _ (passed : List ℕ) (stands : (w : ℕ) → (eqb w v || is_later (order_of table) v w) ≡ not (member w passed)) where
     pub order_told : {apart told : Bool} → apart ≡ list_all (λ w. not (member w passed)) members → apart ≡ told →
-        holds s table v condition.Order ≡ told
+        condition_holds s table v condition.Order ≡ told
     order_told tested is =
         ap (order_holds (order_of table) v) (sym is_set)
         ∙ same_test (λ w. eqb w v || is_later (order_of table) v w) _ members stands ∙ sym tested ∙ is
 
-    pub odd_told : {apart told : Bool} (neighbours : List ℕ) → ((w : ℕ) → member w neighbours ≡ odd s (is_in members) w) →
-        ((w : ℕ) → odd s (is_in members) w ≡ true → member w s.ids ≡ true) →
-        apart ≡ list_all (λ w. not (member w passed)) neighbours → apart ≡ told → holds s table v condition.Odd ≡ told
+    pub odd_told : {apart told : Bool} (neighbours : List ℕ) → ((w : ℕ) → member w neighbours ≡ in_odd_neighbourhood s (is_in members) w) →
+        ((w : ℕ) → in_odd_neighbourhood s (is_in members) w ≡ true → member w s.ids ≡ true) →
+        apart ≡ list_all (λ w. not (member w passed)) neighbours → apart ≡ told → condition_holds s table v condition.Odd ≡ told
     odd_told neighbours tells within tested is =
         ap (odd_holds s (order_of table) v) (sym is_set)
-        ∙ same_test (λ w. not (odd s (is_in members) w) || (eqb w v || is_later (order_of table) v w)) _ s.ids
+        ∙ same_test (λ w. not (in_odd_neighbourhood s (is_in members) w) || (eqb w v || is_later (order_of table) v w)) _ s.ids
         (λ w. ap₂ (λ a b. not a || b) (sym (tells w)) (stands w))
         ∙ sym (all_of_part (λ w. not (member w passed)) neighbours s.ids (λ w there. within w (sym (tells w) ∙ there)))
         ∙ sym tested ∙ is
 
 -- what has neighbours in a set is a vertex
-pub odd_there : (g : Graph) (set : ℕ → Bool) (w : ℕ) → WellFormed g → odd (seen g) set w ≡ true → member w (ids g.vertices) ≡ true
+pub odd_there : (g : Graph) (set : ℕ → Bool) (w : ℕ) → WellFormed g → in_odd_neighbourhood (seen g) set w ≡ true → member w (ids g.vertices) ≡ true
 odd_there g set w formed e =
     by_test (member w (ids g.vertices)) (λ t. t) (λ f. absurd (true≢false (sym e ∙ parity-absent g w set formed f)))
 
@@ -118,7 +118,7 @@ plane_fails p q inside is_odd same e =
 
 -- the first three conditions
 module _ (s : Seen) (table : List Correction) (v : ℕ) where
-  pub input_fails : holds s table v condition.Input ≡ false → IsFirstToFail (holds s table v) conditions condition.Input
+  pub input_fails : condition_holds s table v condition.Input ≡ false → IsFirstToFail (condition_holds s table v) conditions condition.Input
   input_fails fails = record {
     before = [];
     after = condition.Order ∷ condition.Odd ∷ condition.XY ∷ condition.XZ ∷ condition.YZ ∷ [];
@@ -127,8 +127,8 @@ module _ (s : Seen) (table : List Correction) (v : ℕ) where
     fails = fails;
   }
 
-  pub order_fails : holds s table v condition.Input ≡ true → holds s table v condition.Order ≡ false →
-      IsFirstToFail (holds s table v) conditions condition.Order
+  pub order_fails : condition_holds s table v condition.Input ≡ true → condition_holds s table v condition.Order ≡ false →
+      IsFirstToFail (condition_holds s table v) conditions condition.Order
   order_fails input fails = record {
     before = condition.Input ∷ [];
     after = condition.Odd ∷ condition.XY ∷ condition.XZ ∷ condition.YZ ∷ [];
@@ -137,8 +137,8 @@ module _ (s : Seen) (table : List Correction) (v : ℕ) where
     fails = fails;
   }
 
-  pub odd_fails : holds s table v condition.Input ≡ true → holds s table v condition.Order ≡ true → holds s table v condition.Odd ≡ false →
-      IsFirstToFail (holds s table v) conditions condition.Odd
+  pub odd_fails : condition_holds s table v condition.Input ≡ true → condition_holds s table v condition.Order ≡ true → condition_holds s table v condition.Odd ≡ false →
+      IsFirstToFail (condition_holds s table v) conditions condition.Odd
   odd_fails input order fails = record {
     before = condition.Input ∷ condition.Order ∷ [];
     after = condition.XY ∷ condition.XZ ∷ condition.YZ ∷ [];
@@ -149,18 +149,18 @@ module _ (s : Seen) (table : List Correction) (v : ℕ) where
 
 -- where these hold, those of the planes decide
 pub planes_tested : (s : Seen) (table : List Correction) (v : ℕ) (plane : Plane) (members : List ℕ) (inside is_odd : Bool) →
-    members ≡ set_of table v → plane ≡ s.plane v → inside ≡ is_in members v → is_odd ≡ odd s (is_in members) v →
-    holds s table v condition.Input ≡ true → holds s table v condition.Order ≡ true → holds s table v condition.Odd ≡ true →
-    holds_in_plane plane inside is_odd ≡ holds s table v
+    members ≡ set_of table v → plane ≡ s.plane v → inside ≡ is_in members v → is_odd ≡ in_odd_neighbourhood s (is_in members) v →
+    condition_holds s table v condition.Input ≡ true → condition_holds s table v condition.Order ≡ true → condition_holds s table v condition.Odd ≡ true →
+    holds_in_plane plane inside is_odd ≡ condition_holds s table v
 planes_tested s table v plane members inside is_odd is_set at within parity input order odd_there = λ i c. each c i
   where
     inside_set : inside ≡ is_in (set_of table v) v
     inside_set = within ∙ ap (λ l. is_in l v) is_set
 
-    odd_in_set : is_odd ≡ odd s (is_in (set_of table v)) v
-    odd_in_set = parity ∙ ap (λ l. odd s (is_in l) v) is_set
+    odd_in_set : is_odd ≡ in_odd_neighbourhood s (is_in (set_of table v)) v
+    odd_in_set = parity ∙ ap (λ l. in_odd_neighbourhood s (is_in l) v) is_set
 
-    each : (c : Condition) → holds_in_plane plane inside is_odd c ≡ holds s table v c
+    each : (c : Condition) → holds_in_plane plane inside is_odd c ≡ condition_holds s table v c
     each condition.Input = sym input
     each condition.Order = sym order
     each condition.Odd = sym odd_there

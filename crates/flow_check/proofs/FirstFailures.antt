@@ -14,7 +14,7 @@ use Rattle.gflow_laws.specs.Flow.{XY_holds, XZ_holds, YZ_holds}
 use Rattle.flow_check.specs.declared.verdict.Condition.{Condition}
 use Rattle.flow_check.specs.declared.verdict.Verdict.{Verdict}
 use Rattle.flow_check.specs.declared.verdict.Verdict.TheVariants.{Flow, Fails}
-use Rattle.flow_check.specs.Failures.{holds, conditions, all_hold, IsFirstToFail, IsFirstFailure}
+use Rattle.flow_check.specs.Failures.{condition_holds, conditions, all_hold, IsFirstToFail, IsFirstFailure}
 
 -- the first that doesn't pass
 abbrev first_of : {A : Type 0} → (A → Bool) → List A → Option A
@@ -107,9 +107,9 @@ module _ (s : Seen) (table : List Correction) where
   pub alone : (v w : ℕ) (first other : Condition) → IsFirstFailure s table v first → IsFirstFailure s table w other → (v ≡ w) × (first ≡ other)
   alone v w first other f g =
       let same : v ≡ w = first_alone (all_hold s table) (order_of table) v w f.vertex g.vertex in
-      let there : IsFirstToFail (holds s table v) conditions other =
-      subst (λ u. IsFirstToFail (holds s table u) conditions other) (sym same) g.condition in
-      (same, first_alone (holds s table v) conditions first other f.condition there)
+      let there : IsFirstToFail (condition_holds s table v) conditions other =
+      subst (λ u. IsFirstToFail (condition_holds s table u) conditions other) (sym same) g.condition in
+      (same, first_alone (condition_holds s table v) conditions first other f.condition there)
 
   -- what a verdict says
   pub is_flow : IsFlowOf s table → (verdict : Verdict) → verdict ≡ Flow → (verdict ≡ Flow) ↔ IsFlowOf s table

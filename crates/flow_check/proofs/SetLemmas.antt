@@ -5,7 +5,7 @@ use Rattle.zx_model.specs.Bits.{xor, member}
 use Rattle.zx_calculus.specs.Graph.{Graph, Distinct, End, end_vertices, WellFormed}
 use Rattle.zx_calculus.proofs.Booleans.{xor-false, and-false}
 use Rattle.zx_calculus.proofs.Ids.{Distinct-different}
-use Rattle.gflow_laws.specs.Seen.{Seen, odd}
+use Rattle.gflow_laws.specs.Seen.{Seen, in_odd_neighbourhood}
 use Rattle.gflow_laws.specs.Flow.{is_in}
 use Rattle.gflow_laws.specs.Correcting.{Simple}
 use Rattle.gflow_laws.proofs.Linear.{masked-of-xor, masked-one, masked-none}
@@ -39,11 +39,11 @@ all_toggled ends i set over so_far w =
 
 -- one member more
 pub odd_more : (s : Seen) (before rest after all : List ℕ) (w u : ℕ) → Simple s → Distinct all → member w s.ids ≡ true →
-    before ++ rest ≡ all → rest ≡ w ∷ after → odd s (is_in (before ++ w ∷ [])) u ≡ xor (odd s (is_in before) u) (s.adjacent w u)
+    before ++ rest ≡ all → rest ≡ w ∷ after → in_odd_neighbourhood s (is_in (before ++ w ∷ [])) u ≡ xor (in_odd_neighbourhood s (is_in before) u) (s.adjacent w u)
 odd_more s before rest after all w u simple differ there e f =
-    ap (λ A. odd s A u) (λ i p. member-toggled before rest after all w p differ e f i)
+    ap (λ A. in_odd_neighbourhood s A u) (λ i p. member-toggled before rest after all w p differ e f i)
     ∙ masked-of-xor (s.adjacent u) s.ids (is_in before) (λ p. eqb p w)
-    ∙ ap (xor (odd s (is_in before) u)) (masked-one (s.adjacent u) s.ids w simple.distinct there ∙ simple.symmetric u w)
+    ∙ ap (xor (in_odd_neighbourhood s (is_in before) u)) (masked-one (s.adjacent u) s.ids w simple.distinct there ∙ simple.symmetric u w)
 
-pub odd_in_none : (s : Seen) (u : ℕ) → odd s (is_in []) u ≡ false
+pub odd_in_none : (s : Seen) (u : ℕ) → in_odd_neighbourhood s (is_in []) u ≡ false
 odd_in_none s u = masked-none (s.adjacent u) s.ids (is_in []) (λ w there. and-false (s.adjacent u w))

@@ -11,7 +11,7 @@ use Rattle.gflow_laws.specs.Seen.{Seen}
 use Rattle.gflow_laws.specs.Flow.{Correction, order_of, is_later}
 use Rattle.open_graph.proofs.Walks.{member-middle, member-toggled}
 use Rattle.flow_check.specs.declared.verdict.Condition.{Condition}
-use Rattle.flow_check.specs.Failures.{holds, conditions, all_hold, IsFirstToFail, IsFirstFailure}
+use Rattle.flow_check.specs.Failures.{condition_holds, conditions, all_hold, IsFirstToFail, IsFirstFailure}
 use Rattle.flow_check.proofs.FirstFailures.{none_fails}
 use Rattle.flow_check.proofs.ConditionLemmas.{not_passed}
 
@@ -61,7 +61,7 @@ module _ (s : Seen) (table : List Correction) (items : List ℕ) (i v : ℕ) (li
       (take-append-drop i items) back)
       ∙ ap (member w) (sym up_to)
 
-  pub first_there : list_all (all_hold s table) (take i items) ≡ true → (c : Condition) → IsFirstToFail (holds s table v) conditions c →
+  pub first_there : list_all (all_hold s table) (take i items) ≡ true → (c : Condition) → IsFirstToFail (condition_holds s table v) conditions c →
       IsFirstFailure s table v c
   first_there all c first = record {
     vertex = record { before = take i items; after = drop (suc i) items; place = whole; all_pass = all; fails = one_fails };
@@ -69,4 +69,4 @@ module _ (s : Seen) (table : List Correction) (items : List ℕ) (i v : ℕ) (li
   }
     where
       one_fails : all_hold s table v ≡ false
-      one_fails = by_test (all_hold s table v) (λ t. absurd (none_fails (holds s table v) conditions c first t)) (λ f. f)
+      one_fails = by_test (all_hold s table v) (λ t. absurd (none_fails (condition_holds s table v) conditions c first t)) (λ f. f)

@@ -3,11 +3,11 @@
 ghost use Rattle.std.specs.Prelude.{◌≡◌, ◌||◌, ◌==◌, ℕ, true, not, IfOk};
 ghost use Rattle.std.specs.List.{list_all};
 ghost use Rattle.zx_model.specs.Bits.{member};
-ghost use Rattle.zx_calculus.specs.Graph.{Live, WellFormed};
-ghost use Rattle.gflow_laws.specs.Seen.{seen, odd};
+ghost use Rattle.zx_calculus.specs.Graph.{IsVertex, WellFormed};
+ghost use Rattle.gflow_laws.specs.Seen.{seen, in_odd_neighbourhood};
 ghost use Rattle.gflow_laws.specs.Flow.{order_of, is_in, is_later, IsTableOf};
 ghost use Rattle.open_graph.specs.Planes.{plane_named};
-ghost use Rattle.flow_check.specs.Failures.{conditions, holds};
+ghost use Rattle.flow_check.specs.Failures.{conditions, condition_holds};
 ghost use Rattle.flow_check.specs.Internal.Conditions.{IsFirstOrNone, holds_in_plane, plane_test};
 
 use crate::verdict::Condition;
@@ -43,7 +43,7 @@ pub(crate) fn first_failing(
     requires passed { (w : ℕ) →
         ((w == v) || is_later (order_of t.now.table) v w) ≡ not (member w passed.now.ids) }
     ensures { IfOk result (λ failing.
-        IsFirstOrNone (holds (seen g.now.graph) t.now.table v) conditions failing) }
+        IsFirstOrNone (condition_holds (seen g.now.graph) t.now.table v) conditions failing) }
 {
     let (plane, _) = g.weight(v);
     let members = t.correction_set(v);
@@ -73,9 +73,9 @@ fn odd_neighbours(
     g: &OpenGraph,
     members: &VertexSet,
 ) -> Result<VertexSet, AllocError>
-    requires { (w : ℕ) → member w members.now.ids ≡ true → Live g.now.graph w }
+    requires { (w : ℕ) → member w members.now.ids ≡ true → IsVertex g.now.graph w }
     ensures { IfOk result (λ set. (w : ℕ) →
-        member w set.ids ≡ odd (seen g.now.graph) (is_in members.now.ids) w) }
+        member w set.ids ≡ in_odd_neighbourhood (seen g.now.graph) (is_in members.now.ids) w) }
 {
     let mut odd = VertexSet::new(alloc);
     for w in members.iter() {

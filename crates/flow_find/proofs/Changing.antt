@@ -4,7 +4,7 @@ use Rattle.std.proofs.lemmas.Bool.{false_from_ne_true, true≢false, eqb-true}
 use Rattle.zx_model.specs.Bits.{xor, member}
 use Rattle.zx_calculus.proofs.Booleans.{parities, and-false, and-true, xor-false, or-false}
 use Rattle.zx_calculus.proofs.Ids.{by_equal, eqb-self, and-left, and-right}
-use Rattle.gflow_laws.specs.Seen.{Seen, odd}
+use Rattle.gflow_laws.specs.Seen.{Seen, in_odd_neighbourhood}
 use Rattle.gflow_laws.specs.Flow.{is_in}
 use Rattle.gflow_laws.proofs.Linear.{masked-same, masked-of-xor, masked-of-and}
 use Rattle.gflow_laws.proofs.Corrects.{xor_true}
@@ -29,16 +29,16 @@ added_bits l o b r = simp parities
 pub IsRow-added : (s : Seen) (left may : ℕ → Bool) (b : Bool) (row o n : Row) → IsRow s left may row → IsAdded b row o n → IsRow s left may o → IsRow s left may n
 IsRow-added s left may b row o n is_row added old = record {
   columns = λ w. added.columns w ∙ ap₂ (λ x y. xor x (b && y)) (old.columns w) (is_row.columns w)
-      ∙ added_bits (left w) (odd s (is_in o.members.ids) w) b (odd s (is_in row.members.ids) w)
+      ∙ added_bits (left w) (in_odd_neighbourhood s (is_in o.members.ids) w) b (in_odd_neighbourhood s (is_in row.members.ids) w)
       ∙ ap (λ x. left w && x) (sym (sums w));
   members = λ w e. ⊎_elim (old.members w) (λ h. is_row.members w (and-right b _ h)) (xor_true (member w o.members.ids) (b && member w row.members.ids) (sym (added.members w) ∙ e));
 }
   where
-    sums : (w : ℕ) → odd s (is_in n.members.ids) w ≡ xor (odd s (is_in o.members.ids) w) (b && odd s (is_in row.members.ids) w)
+    sums : (w : ℕ) → in_odd_neighbourhood s (is_in n.members.ids) w ≡ xor (in_odd_neighbourhood s (is_in o.members.ids) w) (b && in_odd_neighbourhood s (is_in row.members.ids) w)
     sums w =
         masked-same (s.adjacent w) (s.adjacent w) s.ids (is_in n.members.ids) (λ x. xor (is_in o.members.ids x) (b && is_in row.members.ids x)) (λ x _. ap (λ m. s.adjacent w x && m) (added.members x))
         ∙ masked-of-xor (s.adjacent w) s.ids (is_in o.members.ids) (λ x. b && is_in row.members.ids x)
-        ∙ ap (xor (odd s (is_in o.members.ids) w)) (masked-of-and b (s.adjacent w) s.ids (is_in row.members.ids))
+        ∙ ap (xor (in_odd_neighbourhood s (is_in o.members.ids) w)) (masked-of-and b (s.adjacent w) s.ids (is_in row.members.ids))
 
 held_on : (held : ℕ → Bool) (o n : Row) → n.pivot ≡ o.pivot → held o.pivot ≡ true → held n.pivot ≡ true
 held_on held o n same h = ap held same ∙ h
@@ -175,7 +175,7 @@ pub dropped : (s : Seen) (left held may : ℕ → Bool) (v : ℕ) (old new : Lis
     IsFrontier s (with_one left v) held may old → IsFrontier s left held may new
 dropped s left held may v old new gone each frontier = record {
   each = AreAll-changed (IsDropped v) (IsRow s (with_one left v) may) (IsRow s left may) old new (λ o n d r. record {
-    columns = λ w. d.columns w ∙ ap (λ b. not (eqb w v) && b) (r.columns w) ∙ without_it left v w gone (odd s (is_in o.members.ids) w) ∙ ap (λ ms. left w && odd s (is_in ms) w) (sym d.members);
+    columns = λ w. d.columns w ∙ ap (λ b. not (eqb w v) && b) (r.columns w) ∙ without_it left v w gone (in_odd_neighbourhood s (is_in o.members.ids) w) ∙ ap (λ ms. left w && in_odd_neighbourhood s (is_in ms) w) (sym d.members);
     members = λ w e. r.members w (ap (member w) (sym d.members) ∙ e);
   }) each frontier.each;
   pivots = AreAll-changed (IsDropped v) (λ r. held r.pivot ≡ true) (λ r. held r.pivot ≡ true) old new (λ o n d. held_on held o n d.pivot) each frontier.pivots;

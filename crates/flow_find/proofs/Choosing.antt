@@ -4,11 +4,10 @@ use Rattle.std.proofs.lemmas.Bool.{cases_lt, cases_eq, eq-eqb, ne_eqb}
 use Rattle.std.proofs.lemmas.List.{take-append-drop}
 use Rattle.zx_model.specs.Bits.{member}
 use Rattle.zx_calculus.proofs.Booleans.{or-false, or-true}
-use Rattle.zx_calculus.specs.Graph.{Graph, WellFormed, Live, Distinct}
+use Rattle.zx_calculus.specs.Graph.{Graph, WellFormed, IsVertex, Distinct}
 use Rattle.zx_calculus.proofs.Ids.{by_equal, eqb-self, member-append}
-use Rattle.gflow_laws.specs.Flow.{Correction, order_of, set_of, is_in, is_later, IsFlow}
+use Rattle.gflow_laws.specs.Flow.{Correction, order_of, set_of, is_in, is_later, IsFlow, Corrects}
 use Rattle.gflow_laws.specs.Tables.{with_sets}
-use Rattle.gflow_laws.specs.Correcting.{Corrects}
 use Rattle.gflow_laws.proofs.Tables.{order_of-with_sets, set_of-append, set_of-last, Corrects-same, Corrects-later}
 use Rattle.gflow_laws.specs.Seen.{Seen, seen}
 use Rattle.flow_find.specs.declared.row.Row.{Row}
@@ -212,7 +211,7 @@ module _ (g : Graph) (rows : List Row) (i : ℕ) (order new : List ℕ) (left : 
   place : IsPlace new i v
   place = is_place new i v (let size = same_size (seen g) rows i order new n.choice in let within = n.within in omega (arith, size, within)) n.there
 
-  pub lives : Live g v
+  pub lives : IsVertex g v
   lives = is_live g new n.formed now_along.is_order i v place
 
   pub passable : (now : ℕ → Bool) → ((w : ℕ) → now w ≡ (not (eqb w v) && left w)) → IsPassable (seen g) now v rows

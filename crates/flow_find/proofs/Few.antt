@@ -7,7 +7,8 @@ use Rattle.zx_calculus.specs.Graph.{Plane, XY, XZ, YZ, is_XY}
 use Rattle.zx_calculus.proofs.Booleans.{and-false, xor-same, or-true}
 use Rattle.zx_calculus.proofs.Ids.{by_test, by_equal, eqb-self}
 use Rattle.gflow_laws.specs.Seen.{Seen}
-use Rattle.gflow_laws.specs.Correcting.{Simple, inside_in, odd_in}
+use Rattle.gflow_laws.specs.Correcting.{Simple}
+use Rattle.gflow_laws.specs.Flow.{inside_in, odd_in}
 use Rattle.flow_find.specs.declared.row.Row.{Row}
 use Rattle.flow_find.specs.Frontiers.{AreAll, combined, target_of, usable, IsCorrectable, IsFrontierOf, with_one}
 use Rattle.flow_find.specs.Internal.Rows.{AreEach, IsAdded, IsCleared, IsDropped, IsPivoted, IsSpent, IsPut, IsRowTaken, stale, IsCancelled, IsPassable}

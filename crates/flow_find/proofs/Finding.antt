@@ -5,9 +5,9 @@ use Rattle.zx_model.specs.Bits.{xor, member}
 use Rattle.zx_calculus.proofs.Booleans.{parities, and-false, xor-false}
 use Rattle.zx_calculus.proofs.Ids.{by_test, by_equal, eqb-self, and-left, and-right, not-true}
 use Rattle.zx_calculus.specs.Graph.{XY}
-use Rattle.gflow_laws.specs.Seen.{Seen, odd}
-use Rattle.gflow_laws.specs.Flow.{is_in}
-use Rattle.gflow_laws.specs.Correcting.{Simple, Corrects, inside_in, odd_in}
+use Rattle.gflow_laws.specs.Seen.{Seen, in_odd_neighbourhood}
+use Rattle.gflow_laws.specs.Flow.{is_in, Corrects, inside_in, odd_in}
+use Rattle.gflow_laws.specs.Correcting.{Simple}
 use Rattle.gflow_laws.proofs.Linear.{masked-of-xor, masked-of-and, masked-one}
 use Rattle.gflow_laws.proofs.Corrects.{xor_true}
 use Rattle.flow_find.specs.declared.row.Row.{Row}
@@ -16,10 +16,10 @@ use Rattle.flow_find.proofs.Sums.{AreAll-weaker, combined-same, spans_sets, odd-
 
 -- a set and v itself where the bit says so
 odd_with : (s : Seen) (v : ℕ) (inside : Bool) (A : ℕ → Bool) (w : ℕ) → Simple s → member v s.ids ≡ true →
-    odd s (λ x. xor (inside && eqb x v) (A x)) w ≡ xor (inside && s.adjacent v w) (odd s A w)
+    in_odd_neighbourhood s (λ x. xor (inside && eqb x v) (A x)) w ≡ xor (inside && s.adjacent v w) (in_odd_neighbourhood s A w)
 odd_with s v inside A w simple there =
     masked-of-xor (s.adjacent w) s.ids (λ x. inside && eqb x v) A
-    ∙ ap (λ b. xor b (odd s A w))
+    ∙ ap (λ b. xor b (in_odd_neighbourhood s A w))
     (masked-of-and inside (s.adjacent w) s.ids (λ x. eqb x v)
     ∙ ap (λ b. inside && b) (masked-one (s.adjacent w) s.ids v simple.distinct there ∙ simple.symmetric w v))
 
@@ -63,18 +63,18 @@ correctable s before left v A simple is_left gone a = record { set = others_of s
         (λ f n. let h : A w ≡ true = sym (other w f) ∙ e in
         usable_from (member w s.ids) (s.input w) (left w) (a.members w h) (a.input w h) (gone w (a.order w h n)))
 
-    sums : (w : ℕ) → left w ≡ true → odd s (others_of s v A) w ≡ target_of s v w
+    sums : (w : ℕ) → left w ≡ true → in_odd_neighbourhood s (others_of s v A) w ≡ target_of s v w
     sums w l = odd_with s v (inside_in (s.plane v)) A w simple (is_left.vertices v is_left.there)
         ∙ ap (xor (inside_in (s.plane v) && s.adjacent v w)) (by_equal w v
-        (λ t same. ap (odd s A) same ∙ a.odd_there ∙ with_true (odd_in (s.plane v)) (eqb w v) t)
-        (λ f n. false_from_ne_true (odd s A w) (λ o. true≢false (sym l ∙ gone w (a.odd_order w (is_left.vertices w l) o n))) ∙ with_false (odd_in (s.plane v)) (eqb w v) f))
+        (λ t same. ap (in_odd_neighbourhood s A) same ∙ a.odd_there ∙ with_true (odd_in (s.plane v)) (eqb w v) t)
+        (λ f n. false_from_ne_true (in_odd_neighbourhood s A w) (λ o. true≢false (sym l ∙ gone w (a.odd_order w (is_left.vertices w l) o n))) ∙ with_false (odd_in (s.plane v)) (eqb w v) f))
 
 -- on the vertices left the rows that the target picks sum up to it
 pub sums_up : (s : Seen) (left : ℕ → Bool) (v : ℕ) (rows : List Row) (w : ℕ) → Simple s → IsFrontier s left left (usable s left) rows → IsCorrectable s left v → left w ≡ true →
-    odd s (gathered (target_of s v) rows) w ≡ target_of s v w
+    in_odd_neighbourhood s (gathered (target_of s v) rows) w ≡ target_of s v w
 sums_up s left v rows w simple frontier c l =
     odd-gathered s left (usable s left) (target_of s v) rows w frontier.each l
-    ∙ combined-same (target_of s v) (odd s c.set) rows w (AreAll-weaker (λ r. left r.pivot ≡ true) (λ r. target_of s v r.pivot ≡ odd s c.set r.pivot) rows (λ r p. sym (c.sums r.pivot p)) frontier.pivots)
+    ∙ combined-same (target_of s v) (in_odd_neighbourhood s c.set) rows w (AreAll-weaker (λ r. left r.pivot ≡ true) (λ r. target_of s v r.pivot ≡ in_odd_neighbourhood s c.set r.pivot) rows (λ r p. sym (c.sums r.pivot p)) frontier.pivots)
     ∙ sym (spans_sets s left left (usable s left) rows c.set w simple frontier c.members l)
     ∙ c.sums w l
 
@@ -106,7 +106,7 @@ found s before left v rows simple is_left later frontier c = record {
     unusable : usable s left v ≡ false
     unusable = ap (λ b. member v s.ids && (not (s.input v) && not b)) is_left.there ∙ ap (λ b. member v s.ids && b) (and-false (not (s.input v))) ∙ and-false (member v s.ids)
 
-    odd_left : (w : ℕ) → left w ≡ true → odd s (set_from s rows v) w ≡ (odd_in (s.plane v) && eqb w v)
+    odd_left : (w : ℕ) → left w ≡ true → in_odd_neighbourhood s (set_from s rows v) w ≡ (odd_in (s.plane v) && eqb w v)
     odd_left w l =
         odd_with s v (inside_in (s.plane v)) (gathered (target_of s v) rows) w simple there
         ∙ ap (xor (inside_in (s.plane v) && s.adjacent v w)) (sums_up s left v rows w simple frontier c l)
@@ -118,7 +118,7 @@ pub correctable_alone : (s : Seen) (left : ℕ → Bool) (v : ℕ) (r : Row) →
 correctable_alone s left v r plane row only = record {
   set = is_in r.members.ids;
   members = row.members;
-  sums = λ w l. sym (ap (λ b. b && odd s (is_in r.members.ids) w) l) ∙ sym (row.columns w) ∙ only w
+  sums = λ w l. sym (ap (λ b. b && in_odd_neighbourhood s (is_in r.members.ids) w) l) ∙ sym (row.columns w) ∙ only w
       ∙ sym (ap₂ (λ a b. xor (a && s.adjacent v w) (b && eqb w v)) (ap inside_in plane) (ap odd_in plane));
 }
 
@@ -127,9 +127,9 @@ pub spanned : (s : Seen) (now : ℕ → Bool) (v : ℕ) (rows : List Row) → Si
     IsCorrectable s (with_one now v) v → IsFrontier s now now (usable s (with_one now v)) rows → IsSpanned s now rows v
 spanned s now v rows simple gone inside c frontier w l =
     sym (near w l) ∙ spans_sets s now now (usable s (with_one now v)) rows c.set w simple frontier c.members l
-    ∙ combined-same (odd s c.set) (s.adjacent v) rows w (AreAll-weaker (λ r. now r.pivot ≡ true) (λ r. odd s c.set r.pivot ≡ s.adjacent v r.pivot) rows (λ r p. near r.pivot p) frontier.pivots)
+    ∙ combined-same (in_odd_neighbourhood s c.set) (s.adjacent v) rows w (AreAll-weaker (λ r. now r.pivot ≡ true) (λ r. in_odd_neighbourhood s c.set r.pivot ≡ s.adjacent v r.pivot) rows (λ r p. near r.pivot p) frontier.pivots)
   where
-    near : (x : ℕ) → now x ≡ true → odd s c.set x ≡ s.adjacent v x
+    near : (x : ℕ) → now x ≡ true → in_odd_neighbourhood s c.set x ≡ s.adjacent v x
     near x there =
         let apart : eqb x v ≡ false = by_equal x v (λ t e. absurd (true≢false (sym there ∙ ap now e ∙ gone))) (λ f n. f) in
         c.sums x (ap (λ b. b || eqb x v) there) ∙ ap₂ (λ a b. xor (a && s.adjacent v x) (odd_in (s.plane v) && b)) inside apart

@@ -4,9 +4,8 @@ use Rattle.std.proofs.lemmas.Bool.{true≢false, eqb-true}
 use Rattle.zx_model.specs.Bits.{member}
 use Rattle.zx_calculus.specs.Graph.{Graph, Distinct}
 use Rattle.zx_calculus.proofs.Ids.{by_test, by_equal, eqb-self, eqb_comm, member-append, or-left, or-right, and-left, and-right, not-true}
-use Rattle.gflow_laws.specs.Seen.{seen, odd}
-use Rattle.gflow_laws.specs.Flow.{is_in, is_later}
-use Rattle.gflow_laws.specs.Correcting.{Corrects, inside_in, odd_in}
+use Rattle.gflow_laws.specs.Seen.{seen, in_odd_neighbourhood}
+use Rattle.gflow_laws.specs.Flow.{is_in, is_later, Corrects, inside_in, odd_in}
 use Rattle.gflow_laws.proofs.Tables.{Corrects-later}
 use Rattle.flow_find.specs.declared.row.Row.{Row}
 use Rattle.flow_find.specs.Frontiers.{usable, IsRow}
@@ -60,7 +59,7 @@ module _ (g : Graph) (before after gone : List ℕ) (w : ℕ) (left : ℕ → Bo
 
   there : left w ≡ true
   there = by_test (left w) (λ t. t)
-      (λ f. absurd (true≢false (sym (ap (λ b. b) (eqb-self w)) ∙ sym (alone.only w) ∙ row.columns w ∙ ap (λ b. b && odd (seen g) (is_in r.members.ids) w) f)))
+      (λ f. absurd (true≢false (sym (ap (λ b. b) (eqb-self w)) ∙ sym (alone.only w) ∙ row.columns w ∙ ap (λ b. b && in_odd_neighbourhood (seen g) (is_in r.members.ids) w) f)))
 
   out : (p : ℕ) → member p r.members.ids ≡ true → left p ≡ false
   out p e = not-true _ (and-right _ _ (and-right (member p (seen g).ids) _ (row.members p e)))
@@ -74,7 +73,7 @@ module _ (g : Graph) (before after gone : List ℕ) (w : ℕ) (left : ℕ → Bo
         (λ l. absurd (n (eqb-true p w (sym (alone.only p) ∙ row.columns p ∙ ap₂ (λ a b. a && b) l e))))
         (λ f. later p ∙ ap not f);
     inside = by_test (member w r.members.ids) (λ t. absurd (true≢false (sym there ∙ out w t))) (λ f. f ∙ sym (ap inside_in alone.plane));
-    odd_there = sym (ap (λ b. b && odd (seen g) (is_in r.members.ids) w) there) ∙ sym (row.columns w) ∙ alone.only w ∙ eqb-self w ∙ sym (ap odd_in alone.plane);
+    odd_there = sym (ap (λ b. b && in_odd_neighbourhood (seen g) (is_in r.members.ids) w) there) ∙ sym (row.columns w) ∙ alone.only w ∙ eqb-self w ∙ sym (ap odd_in alone.plane);
   }
 
   pub moved : IsOrder g ((before ++ after) ++ w ∷ gone)

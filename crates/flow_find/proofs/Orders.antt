@@ -9,9 +9,9 @@ use Rattle.zx_calculus.proofs.Ids.{by_equal, eqb-self, member-append, or-left, o
 use Rattle.zx_calculus.proofs.Splitting.{interior_of}
 use Rattle.zx_calculus.specs.Graph.{Graph, Plane, XY, XZ, YZ, is_XY, Distinct, WellFormed}
 use Rattle.gflow_laws.specs.Seen.{Seen, seen}
-use Rattle.gflow_laws.specs.Flow.{Correction, order_of, set_of, is_in, is_later, IsFlow}
+use Rattle.gflow_laws.specs.Flow.{Correction, order_of, set_of, is_in, is_later, IsFlow, Corrects, inside_in}
 use Rattle.gflow_laws.specs.Tables.{with_sets}
-use Rattle.gflow_laws.specs.Correcting.{Corrects, FlowAsFunctions, inside_in}
+use Rattle.gflow_laws.specs.Correcting.{FlowAsFunctions}
 use Rattle.gflow_laws.proofs.Flows.{Flows-from, IsFlowOf-from}
 use Rattle.gflow_laws.proofs.Tables.{order_of-with_sets, set_of-with_sets, Corrects-same}
 use Rattle.gflow_laws.proofs.Views.{Simple-seen}

@@ -5,9 +5,9 @@ use Rattle.zx_model.specs.Bits.{xor, member}
 use Rattle.zx_calculus.proofs.Booleans.{and-false, and-true, xor-false, xor-same, or-true, or-false}
 use Rattle.zx_calculus.proofs.Ids.{by_test, by_equal}
 use Rattle.zx_calculus.specs.Graph.{Plane, XY, XZ, YZ, is_XY}
-use Rattle.gflow_laws.specs.Seen.{Seen, odd}
-use Rattle.gflow_laws.specs.Flow.{is_in}
-use Rattle.gflow_laws.specs.Correcting.{Simple, inside_in}
+use Rattle.gflow_laws.specs.Seen.{Seen, in_odd_neighbourhood}
+use Rattle.gflow_laws.specs.Flow.{is_in, inside_in}
+use Rattle.gflow_laws.specs.Correcting.{Simple}
 use Rattle.gflow_laws.proofs.Linear.{masked-same, masked-of-xor, masked-one}
 use Rattle.gflow_laws.proofs.Lists.{is_in-one}
 use Rattle.gflow_laws.proofs.Corrects.{xor_true}
@@ -23,7 +23,7 @@ use Rattle.flow_find.proofs.Changing.{put_keeps, with_may, frontier_alike}
 pub combined_outside : (s : Seen) (left may t : ℕ → Bool) (rows : List Row) (w : ℕ) → AreAll (IsRow s left may) rows → left w ≡ false → combined t rows w ≡ false
 combined_outside s left may t [] w each out = refl
 combined_outside s left may t (r ∷ rs) w each out =
-    ap₂ (λ c x. xor (t r.pivot && c) x) (each.0.columns w ∙ ap (λ b. b && odd s (is_in r.members.ids) w) out) (combined_outside s left may t rs w each.1 out)
+    ap₂ (λ c x. xor (t r.pivot && c) x) (each.0.columns w ∙ ap (λ b. b && in_odd_neighbourhood s (is_in r.members.ids) w) out) (combined_outside s left may t rs w each.1 out)
     ∙ ap (λ b. xor b false) (and-false (t r.pivot))
 
 -- the row of u, with the rows added at whose pivots u has neighbours
@@ -45,7 +45,7 @@ inserted s left may u start row old new simple there columns one sum put frontie
     first : (w : ℕ) → member w row.members.ids ≡ xor (eqb w u) (gathered (near s u) old w)
     first w = sum.members w ∙ ap (λ b. xor b (gathered (near s u) old w)) (ap (member w) one ∙ is_in-one u w)
 
-    sums : (w : ℕ) → left w ≡ true → odd s (is_in row.members.ids) w ≡ xor (s.adjacent u w) (combined (s.adjacent u) old w)
+    sums : (w : ℕ) → left w ≡ true → in_odd_neighbourhood s (is_in row.members.ids) w ≡ xor (s.adjacent u w) (combined (s.adjacent u) old w)
     sums w l =
         masked-same (s.adjacent w) (s.adjacent w) s.ids (is_in row.members.ids) (λ x. xor (eqb x u) (gathered (near s u) old x)) (λ x _. ap (λ b. s.adjacent w x && b) (first x))
         ∙ masked-of-xor (s.adjacent w) s.ids (λ x. eqb x u) (gathered (near s u) old)
@@ -55,9 +55,9 @@ inserted s left may u start row old new simple there columns one sum put frontie
     is_row : IsRow s left (with_one may u) row
     is_row = record {
       columns = λ w. by_test (left w)
-          (λ l. at_left w l ∙ sym (ap (λ b. b && odd s (is_in row.members.ids) w) l ∙ sums w l))
+          (λ l. at_left w l ∙ sym (ap (λ b. b && in_odd_neighbourhood s (is_in row.members.ids) w) l ∙ sums w l))
           (λ out. sum.columns w ∙ ap₂ xor (columns w ∙ ap (λ b. b && s.adjacent u w) out) (combined_outside s left may (near s u) old w frontier.each out)
-          ∙ sym (ap (λ b. b && odd s (is_in row.members.ids) w) out));
+          ∙ sym (ap (λ b. b && in_odd_neighbourhood s (is_in row.members.ids) w) out));
       members = λ w e. ⊎_elim
           (λ t. ap (λ b. may w || b) t ∙ or-true (may w))
           (λ g. by_test (may w) (λ m. ap (λ b. b || eqb w u) m) (λ f. absurd (true≢false (sym g ∙ gathered_may s left may (near s u) old w frontier.each f))))

@@ -6,9 +6,9 @@ use Rattle.zx_calculus.specs.Graph.{Graph, WellFormed, Distinct, in_order}
 use Rattle.zx_calculus.proofs.Booleans.{and-false, or-true}
 use Rattle.zx_calculus.proofs.Ids.{by_test, by_equal, eqb-self, and-left, and-right, not-true, member-filter}
 use Rattle.gflow_laws.specs.Seen.{seen}
-use Rattle.gflow_laws.specs.Flow.{Correction, order_of, set_of, is_in, is_later, IsFlow}
+use Rattle.gflow_laws.specs.Flow.{Correction, order_of, set_of, is_in, is_later, IsFlow, Corrects}
 use Rattle.gflow_laws.specs.Tables.{with_sets}
-use Rattle.gflow_laws.specs.Correcting.{Simple, Corrects}
+use Rattle.gflow_laws.specs.Correcting.{Simple}
 use Rattle.gflow_laws.proofs.Flows.{IsFlowOf-from}
 use Rattle.gflow_laws.proofs.Tables.{order_of-with_sets, set_of-with_sets, Corrects-same, Corrects-later}
 use Rattle.gflow_laws.proofs.Views.{Simple-seen}

@@ -7,8 +7,9 @@ use Rattle.zx_calculus.specs.Graph.{Graph, Plane, XY, XZ, YZ, WellFormed, is_XY}
 use Rattle.zx_calculus.proofs.Booleans.{and-false, xor-same}
 use Rattle.zx_calculus.proofs.Ids.{by_test, by_equal, eqb-self, member-here, not-true}
 use Rattle.zx_calculus.proofs.Splitting.{interior_of}
-use Rattle.gflow_laws.specs.Seen.{Seen, seen, odd}
-use Rattle.gflow_laws.specs.Correcting.{Simple, inside_in, odd_in}
+use Rattle.gflow_laws.specs.Seen.{Seen, seen, in_odd_neighbourhood}
+use Rattle.gflow_laws.specs.Correcting.{Simple}
+use Rattle.gflow_laws.specs.Flow.{inside_in, odd_in}
 use Rattle.flow_find.specs.declared.row.Row.{Row}
 use Rattle.flow_find.specs.Frontiers.{AreAll, combined, gathered, target_of, set_from, usable, IsLeft, IsCorrectable, IsFrontierOf}
 use Rattle.flow_find.specs.Stuck.{after_those, HasSet}
@@ -23,8 +24,8 @@ use Rattle.flow_find.proofs.Orders.{off_XY}
 has_target : (s : Seen) (left : ℕ → Bool) (rows : List Row) (v w : ℕ) → Simple s → IsFrontierOf s left rows → IsCorrectable s left v → left w ≡ true →
     combined (target_of s v) rows w ≡ target_of s v w
 has_target s left rows v w simple frontier c l =
-    combined-same (target_of s v) (odd s c.set) rows w
-    (AreAll-weaker (λ r. left r.pivot ≡ true) (λ r. target_of s v r.pivot ≡ odd s c.set r.pivot) rows (λ r p. sym (c.sums r.pivot p)) frontier.pivots)
+    combined-same (target_of s v) (in_odd_neighbourhood s c.set) rows w
+    (AreAll-weaker (λ r. left r.pivot ≡ true) (λ r. target_of s v r.pivot ≡ in_odd_neighbourhood s c.set r.pivot) rows (λ r p. sym (c.sums r.pivot p)) frontier.pivots)
     ∙ sym (spans_sets s left left (usable s left) rows c.set w simple frontier c.members l)
     ∙ c.sums w l
 

@@ -5,7 +5,7 @@ use Rattle.zx_model.specs.Bits.{xor, member}
 use Rattle.zx_calculus.specs.Parity.{masked}
 use Rattle.zx_calculus.proofs.Booleans.{parities, and_comm, and-false}
 use Rattle.zx_calculus.proofs.Ids.{by_test}
-use Rattle.gflow_laws.specs.Seen.{Seen, odd}
+use Rattle.gflow_laws.specs.Seen.{Seen, in_odd_neighbourhood}
 use Rattle.gflow_laws.specs.Flow.{is_in}
 use Rattle.gflow_laws.specs.Correcting.{Simple}
 use Rattle.gflow_laws.proofs.Linear.{masked-same, masked-none, masked-of-xor, masked-of-and}
@@ -89,7 +89,7 @@ combined-masked s A rows w (u ∷ vs) simple =
 
 -- the odd neighbourhood of a set that may be used is a sum of rows
 pub spans_sets : (s : Seen) (left held may : ℕ → Bool) (rows : List Row) (A : ℕ → Bool) (w : ℕ) → Simple s → IsFrontier s left held may rows →
-    ((u : ℕ) → A u ≡ true → may u ≡ true) → left w ≡ true → odd s A w ≡ combined (odd s A) rows w
+    ((u : ℕ) → A u ≡ true → may u ≡ true) → left w ≡ true → in_odd_neighbourhood s A w ≡ combined (in_odd_neighbourhood s A) rows w
 spans_sets s left held may rows A w simple frontier used there =
     masked-same (s.adjacent w) (λ u. combined (s.adjacent u) rows w) s.ids A A
     (λ u _. by_test (A u)
@@ -99,13 +99,13 @@ spans_sets s left held may rows A w simple frontier used there =
 
 -- what is gathered has the sum of the rows as its odd neighbourhood
 pub odd-gathered : (s : Seen) (left may t : ℕ → Bool) (rows : List Row) (w : ℕ) → AreAll (IsRow s left may) rows → left w ≡ true →
-    odd s (gathered t rows) w ≡ combined t rows w
+    in_odd_neighbourhood s (gathered t rows) w ≡ combined t rows w
 odd-gathered s left may t [] w each there = masked-none (s.adjacent w) s.ids (gathered t []) (λ x _. and-false (s.adjacent w x))
 odd-gathered s left may t (r ∷ rs) w each there =
     masked-of-xor (s.adjacent w) s.ids (λ x. t r.pivot && is_in r.members.ids x) (gathered t rs)
     ∙ ap₂ xor
     (masked-of-and (t r.pivot) (s.adjacent w) s.ids (is_in r.members.ids)
-    ∙ ap (λ b. t r.pivot && b) (sym (each.0.columns w ∙ ap (λ b. b && odd s (is_in r.members.ids) w) there)))
+    ∙ ap (λ b. t r.pivot && b) (sym (each.0.columns w ∙ ap (λ b. b && in_odd_neighbourhood s (is_in r.members.ids) w) there)))
     (odd-gathered s left may t rs w each.1 there)
 
 -- what is gathered may be used

@@ -6,9 +6,8 @@
 -- rows are kept, solves the equations of all vertices.
 use Rattle.std.specs.Prelude.{◌≡◌, ℕ, Bool, true, false, not, ◌&&◌, ◌||◌, ◌==◌, List, [], ◌∷◌}
 use Rattle.zx_model.specs.Bits.{xor, member}
-use Rattle.gflow_laws.specs.Seen.{Seen, odd}
-use Rattle.gflow_laws.specs.Flow.{is_in}
-use Rattle.gflow_laws.specs.Correcting.{inside_in, odd_in}
+use Rattle.gflow_laws.specs.Seen.{Seen, in_odd_neighbourhood}
+use Rattle.gflow_laws.specs.Flow.{is_in, inside_in, odd_in}
 use Rattle.flow_find.specs.declared.row.Row.{Row}
 
 -- all rows have this property
@@ -46,11 +45,11 @@ usable s left w = member w s.ids && (not (s.input w) && not (left w))
 pub record IsCorrectable (s : Seen) (left : ℕ → Bool) (v : ℕ) : Type 0 where
   pub set : ℕ → Bool
   pub members : (w : ℕ) → set w ≡ true → usable s left w ≡ true
-  pub sums : (w : ℕ) → left w ≡ true → odd s set w ≡ target_of s v w
+  pub sums : (w : ℕ) → left w ≡ true → in_odd_neighbourhood s set w ≡ target_of s v w
 
 -- the columns of a row are the odd neighbourhood of its members, on the vertices left
 pub record IsRow (s : Seen) (left may : ℕ → Bool) (r : Row) : Type 0 where
-  pub columns : (w : ℕ) → member w r.columns.ids ≡ (left w && odd s (is_in r.members.ids) w)
+  pub columns : (w : ℕ) → member w r.columns.ids ≡ (left w && in_odd_neighbourhood s (is_in r.members.ids) w)
   pub members : (w : ℕ) → member w r.members.ids ≡ true → may w ≡ true
 
 -- they are such rows, with pivots that are held; and the neighbours of each vertex that may be a

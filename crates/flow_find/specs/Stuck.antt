@@ -7,8 +7,7 @@ use Rattle.std.specs.Prelude.{◌≡◌, ℕ, Bool, true, not, ◌&&◌, List, l
 use Rattle.zx_model.specs.Bits.{member}
 use Rattle.zx_calculus.specs.Graph.{Graph, in_order}
 use Rattle.gflow_laws.specs.Seen.{Seen, seen}
-use Rattle.gflow_laws.specs.Flow.{Correction, IsFlow}
-use Rattle.gflow_laws.specs.Correcting.{Corrects}
+use Rattle.gflow_laws.specs.Flow.{Correction, IsFlow, Corrects}
 
 -- the order in which what is left comes before all that isn't
 abbrev pub after_those : (ℕ → Bool) → ℕ → ℕ → Bool

@@ -2,10 +2,9 @@
 
 ghost use Rattle.std.specs.Prelude.{◌≡◌, ◌≤◌, ◌&&◌, ◌==◌, ℕ, not, true, length, IfOk, OnOk};
 ghost use Rattle.zx_model.specs.Bits.{member};
-ghost use Rattle.zx_calculus.specs.Graph.{Live, Distinct, WellFormed};
+ghost use Rattle.zx_calculus.specs.Graph.{IsVertex, Distinct, WellFormed};
 ghost use Rattle.gflow_laws.specs.Seen.{seen};
-ghost use Rattle.gflow_laws.specs.Flow.{order_of, is_in, IsFlow};
-ghost use Rattle.gflow_laws.specs.Correcting.{inside_in, odd_in};
+ghost use Rattle.gflow_laws.specs.Flow.{order_of, is_in, IsFlow, inside_in, odd_in};
 ghost use Rattle.open_graph.specs.Planes.{plane_named};
 ghost use Rattle.move_laws.specs.Orders.{HasFlowAlong};
 ghost use Rattle.flow_find.specs.Frontiers.{set_from, IsFrontierOf};
@@ -67,7 +66,7 @@ pub(crate) fn correct_last(
     left: &mut VertexSet,
     rows: &mut Vec<Row>,
 ) -> Result<(), AllocError>
-    requires live { Live g.now.graph v }
+    requires live { IsVertex g.now.graph v }
     requires listed { member v (order_of table.old.table) ≡ true }
     ensures table { OnOk result
         (IsSetFrom (seen g.now.graph) rows.old.items v table.old.table table.new.table) }
@@ -126,7 +125,7 @@ pub(crate) fn correction(
     rows: &[Row],
     v: VertexId,
 ) -> Result<VertexSet, AllocError>
-    requires { Live g.now.graph v }
+    requires { IsVertex g.now.graph v }
     ensures { IfOk result (λ set. (w : ℕ) →
         member w set.ids ≡ set_from (seen g.now.graph) rows.now v w) }
 {

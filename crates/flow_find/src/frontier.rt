@@ -2,7 +2,7 @@
 
 ghost use Rattle.std.specs.Prelude.{◌≡◌, ◌<◌, ◌≤◌, ◌+◌, ◌&&◌, ◌||◌, ◌==◌, ℕ, Bool, false, not, length, IfOk, OnOk};
 ghost use Rattle.zx_model.specs.Bits.{member};
-ghost use Rattle.zx_calculus.specs.Graph.{Live, WellFormed, is_XY, plane_of, joined, end_vertices};
+ghost use Rattle.zx_calculus.specs.Graph.{IsVertex, WellFormed, is_XY, plane_of, joined, end_vertices};
 ghost use Rattle.gflow_laws.specs.Seen.{Seen, seen};
 ghost use Rattle.gflow_laws.specs.Flow.{is_in};
 ghost use Rattle.flow_find.specs.Frontiers.{AreAll, IsFrontier, IsFrontierOf, with_one};
@@ -22,7 +22,7 @@ pub(crate) fn pass(
     v: VertexId,
     left: &VertexSet,
 ) -> Result<(), AllocError>
-    requires live { Live g.now.graph v }
+    requires live { IsVertex g.now.graph v }
     requires gone { is_in left.now.ids v ≡ false }
     ensures rows { OnOk result (IsPassable (seen g.now.graph) (is_in left.now.ids) v rows.old.items →
         IsFrontierOf (seen g.now.graph) (is_in left.now.ids) rows.new.items) }
@@ -40,7 +40,7 @@ pub(crate) fn pass(
 // Whether a vertex that goes may be a member, and isn't in its own set. The neighbours of one that
 // is are a sum of rows already.
 fn needs_row(g: &OpenGraph, v: VertexId) -> bool
-    requires { Live g.now.graph v }
+    requires { IsVertex g.now.graph v }
     ensures value { result ≡ (is_XY (plane_of g.now.graph v)
         && not (member v (end_vertices g.now.graph.inputs))) }
     ensures valid { WellFormed g.now.graph }
@@ -72,7 +72,7 @@ pub(crate) fn insert(
     u: VertexId,
     left: &VertexSet,
 ) -> Result<(), AllocError>
-    requires { Live g.now.graph u }
+    requires { IsVertex g.now.graph u }
     ensures rows { OnOk result ((may : ℕ → Bool) →
         IsFrontierFor (seen g.now.graph) (is_in left.now.ids) may rows.old.items →
         IsFrontierFor (seen g.now.graph) (is_in left.now.ids) (with_one may u) rows.new.items) }
@@ -101,7 +101,7 @@ pub(crate) fn left_neighbours(
     u: VertexId,
     left: &VertexSet,
 ) -> Result<VertexSet, AllocError>
-    requires { Live g.now.graph u }
+    requires { IsVertex g.now.graph u }
     ensures members { IfOk result (λ set. (w : ℕ) →
         member w set.ids ≡ (is_in left.now.ids w && joined g.now.graph.edges u w)) }
     ensures valid { WellFormed g.now.graph }

@@ -4,7 +4,8 @@ ghost use Rattle.std.specs.Prelude.{◌≡◌, ◌≢◌, ◌==◌, ◌++◌, []
 ghost use Rattle.zx_model.specs.Bits.{member};
 ghost use Rattle.zx_calculus.specs.Graph.{Graph, XY};
 ghost use Rattle.gflow_laws.specs.Seen.{Seen};
-ghost use Rattle.gflow_laws.specs.Correcting.{Simple, Corrects, inside_in};
+ghost use Rattle.gflow_laws.specs.Correcting.{Simple};
+ghost use Rattle.gflow_laws.specs.Flow.{Corrects, inside_in};
 ghost use Rattle.flow_find.specs.declared.row.Row.{Row};
 ghost use Rattle.flow_find.specs.Frontiers.{usable, set_from, IsLeft, NoneLeftAfter, AllGoneAfter, IsCorrectable, IsRow, IsFrontier, IsFrontierOf, IsSpanned, with_one};
 ghost use Rattle.flow_find.specs.Stuck.{HasFlow, HasSet, IsStuck, IsLargestStuck};

@@ -1,7 +1,7 @@
 //! Which rows are added.
 
 ghost use Rattle.std.specs.Prelude.{◌≡◌};
-ghost use Rattle.zx_calculus.specs.Graph.{Live};
+ghost use Rattle.zx_calculus.specs.Graph.{IsVertex};
 ghost use Rattle.gflow_laws.specs.Seen.{seen};
 ghost use Rattle.flow_find.specs.Frontiers.{around};
 
@@ -18,7 +18,7 @@ pub(crate) struct Around {
 impl Around {
     // Whether a vertex is one of these.
     pub(crate) fn has(&self, g: &OpenGraph, w: VertexId) -> bool
-        requires { Live g.now.graph self.now.vertex }
+        requires { IsVertex g.now.graph self.now.vertex }
         ensures { result ≡ around (seen g.now.graph)
             self.now.vertex self.now.neighbours self.now.itself w }
     {

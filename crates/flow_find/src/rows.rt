@@ -1,7 +1,7 @@
 //! Rows that are added to each other.
 
 ghost use Rattle.std.specs.Prelude.{◌≡◌, ◌==◌, false, [], position, OnOk, IfSome, IfNone};
-ghost use Rattle.zx_calculus.specs.Graph.{Live};
+ghost use Rattle.zx_calculus.specs.Graph.{IsVertex};
 ghost use Rattle.gflow_laws.specs.Seen.{seen};
 ghost use Rattle.flow_find.specs.Frontiers.{AreAll, around};
 ghost use Rattle.flow_find.specs.Internal.Rows.{AreEach, IsSum, IsCleared, IsRelieved, IsDropped, IsPut, IsRowTaken, IsSpent};
@@ -18,7 +18,7 @@ pub(crate) fn add_picked(
     picked: &Around,
     rows: &[Row],
 ) -> Result<(), AllocError>
-    requires { Live g.now.graph picked.now.vertex }
+    requires { IsVertex g.now.graph picked.now.vertex }
     ensures { OnOk result (IsSum (around (seen g.now.graph)
         picked.now.vertex picked.now.neighbours picked.now.itself) rows.now sum.old sum.new) }
 {

@@ -2,7 +2,7 @@
 
 ghost use Rattle.std.specs.Prelude.{◌≡◌, ◌≢◌, ◌<◌, ◌&&◌, ℕ, true, false, [], reverse, filter, not, IfOk, IfSome, IfNone, IsTrue, OnOk, ltb};
 ghost use Rattle.zx_model.specs.Bits.{member};
-ghost use Rattle.zx_calculus.specs.Graph.{Live, Distinct, WellFormed, is_XY, plane_of, in_order};
+ghost use Rattle.zx_calculus.specs.Graph.{IsVertex, Distinct, WellFormed, is_XY, plane_of, in_order};
 ghost use Rattle.gflow_laws.specs.Seen.{seen};
 ghost use Rattle.gflow_laws.specs.Flow.{is_in, order_of, IsFlow};
 ghost use Rattle.flow_find.specs.Frontiers.{AreAll, around, set_from};
@@ -166,7 +166,7 @@ fn listed(alloc: Global, set: &VertexSet) -> Result<Vec<VertexId>, AllocError>
 
 // Adds the neighbours of a vertex that aren't XY.
 fn note_neighbours(noted: &mut Vec<VertexId>, g: &OpenGraph, v: VertexId) -> Result<(), AllocError>
-    requires { Live g.now.graph v }
+    requires { IsVertex g.now.graph v }
 {
     for w in g.neighbours(v) {
         if !is_xy(g, w) {
@@ -185,7 +185,7 @@ fn next_correctable(
     left: &VertexSet,
     beside: &mut Vec<VertexId>,
 ) -> Result<Option<Correctable>, AllocError>
-    requires { (w : ℕ) → is_in left.now.ids w ≡ true → Live g.now.graph w }
+    requires { (w : ℕ) → is_in left.now.ids w ≡ true → IsVertex g.now.graph w }
     ensures some { IfOk result (λ next.
         IfSome next (IsNext (seen g.now.graph) (is_in left.now.ids) rows.now)) }
     ensures none { IfOk result (λ next.
@@ -210,7 +210,7 @@ fn alone(
     rows: &[Row],
     left: &VertexSet,
 ) -> Result<Option<Correctable>, AllocError>
-    requires { (w : ℕ) → is_in left.now.ids w ≡ true → Live g.now.graph w }
+    requires { (w : ℕ) → is_in left.now.ids w ≡ true → IsVertex g.now.graph w }
     ensures { IfOk result (λ next.
         IfSome next (IsNext (seen g.now.graph) (is_in left.now.ids) rows.now)) }
 {
@@ -228,7 +228,7 @@ fn any_noted(
     left: &VertexSet,
     noted: &mut Vec<VertexId>,
 ) -> Result<Option<Correctable>, AllocError>
-    requires { (w : ℕ) → is_in left.now.ids w ≡ true → Live g.now.graph w }
+    requires { (w : ℕ) → is_in left.now.ids w ≡ true → IsVertex g.now.graph w }
     ensures { IfOk result (λ next.
         IfSome next (IsNext (seen g.now.graph) (is_in left.now.ids) rows.now)) }
 {
@@ -250,7 +250,7 @@ fn first_left(
     left: &VertexSet,
     all: bool,
 ) -> Result<Option<Correctable>, AllocError>
-    requires { (w : ℕ) → is_in left.now.ids w ≡ true → Live g.now.graph w }
+    requires { (w : ℕ) → is_in left.now.ids w ≡ true → IsVertex g.now.graph w }
     ensures some { IfOk result (λ next.
         IfSome next (IsNext (seen g.now.graph) (is_in left.now.ids) rows.now)) }
     ensures none { IfOk result (λ next. IfNone next (IsTrue all →
@@ -274,7 +274,7 @@ fn with_set(
     left: &VertexSet,
     v: VertexId,
 ) -> Result<Option<Correctable>, AllocError>
-    requires live { Live g.now.graph v }
+    requires live { IsVertex g.now.graph v }
     requires there { is_in left.now.ids v ≡ true }
     ensures some { IfOk result (λ next.
         IfSome next (IsNext (seen g.now.graph) (is_in left.now.ids) rows.now)) }
@@ -297,7 +297,7 @@ fn with_set(
 
 // Whether the rows lack a column that a vertex left needs.
 fn lacks_column(g: &OpenGraph, rows: &[Row], left: &VertexSet, v: VertexId) -> bool
-    requires live { Live g.now.graph v }
+    requires live { IsVertex g.now.graph v }
     requires there { is_in left.now.ids v ≡ true }
     ensures { result ≡ true → IsMissed (seen g.now.graph) (is_in left.now.ids) rows.now v }
 {
@@ -309,7 +309,7 @@ fn lacks_column(g: &OpenGraph, rows: &[Row], left: &VertexSet, v: VertexId) -> b
 
 // A column that a vertex left needs: itself, where it is XY, and else a neighbour that is left.
 fn needed_column(g: &OpenGraph, left: &VertexSet, v: VertexId) -> Option<VertexId>
-    requires live { Live g.now.graph v }
+    requires live { IsVertex g.now.graph v }
     requires there { is_in left.now.ids v ≡ true }
     ensures { IfSome result (IsNeeded (seen g.now.graph) (is_in left.now.ids) v) }
 {
@@ -326,7 +326,7 @@ fn needed_column(g: &OpenGraph, left: &VertexSet, v: VertexId) -> Option<VertexI
 
 // Whether a vertex is XY.
 fn has_xy_plane(g: &OpenGraph, v: VertexId) -> bool
-    requires { Live g.now.graph v }
+    requires { IsVertex g.now.graph v }
     ensures { result ≡ is_XY (plane_of g.now.graph v) }
 {
     matches!(g.weight(v).0, Plane::XY)
@@ -352,7 +352,7 @@ fn solved(
     left: &VertexSet,
     v: VertexId,
 ) -> Result<Row, AllocError>
-    requires live { Live g.now.graph v }
+    requires live { IsVertex g.now.graph v }
     requires there { is_in left.now.ids v ≡ true }
     ensures columns { IfOk result (λ row. (w : ℕ) → member w row.columns.ids ≡
         lacking (seen g.now.graph) (is_in left.now.ids) rows.now v w) }
@@ -383,7 +383,7 @@ fn left_around(
     left: &VertexSet,
     target: &Around,
 ) -> Result<VertexSet, AllocError>
-    requires live { Live g.now.graph target.now.vertex }
+    requires live { IsVertex g.now.graph target.now.vertex }
     requires there { is_in left.now.ids target.now.vertex ≡ true }
     ensures { IfOk result (λ set. (w : ℕ) → member w set.ids ≡
         (is_in left.now.ids w && around (seen g.now.graph)

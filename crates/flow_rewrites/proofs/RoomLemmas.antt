@@ -2,7 +2,7 @@
 use Rattle.std.proofs.Common.{◌≡◌, refl, sym, ◌∙◌, ap, subst, ℕ, suc, ◌+◌, ◌*◌, ◌<◌, ◌≤◌, true, List, [], ◌∷◌, length, arith}
 use Rattle.zx_model.specs.Bits.{one_if}
 use Rattle.zx_bits.specs.Sets.{IsBelow}
-use Rattle.zx_calculus.specs.Graph.{XY, Graph, Vertex, ids, with_kinds, without, insert_vertex, plane_of, Live, WellFormed}
+use Rattle.zx_calculus.specs.Graph.{XY, Graph, Vertex, ids, with_kinds, without, insert_vertex, plane_of, IsVertex, WellFormed}
 use Rattle.zx_calculus.specs.Splits.{new_vertex, spider_of_phase_zero}
 use Rattle.zx_calculus.specs.Steps.{Step, IsStep, LocalComplement, Delete, Pivot, SplitInput, SplitOutput, DropLone, FuseInto, FuseTwin}
 use Rattle.zx_calculus.proofs.CountLemmas.{Test, count, count_front, count-with_kinds, count-insert}
@@ -38,13 +38,13 @@ same_size g h f is =
     by_counts _ _ _ _ 0 0
     (count-every h.vertices ∙ ap (count every) is ∙ count-with_kinds every f g.vertices) (count-every g.vertices) refl
 
-one_gone : (g h : Graph) (u : ℕ) → WellFormed g → Live g u → length h.vertices ≡ count every (without u g.vertices) →
+one_gone : (g h : Graph) (u : ℕ) → WellFormed g → IsVertex g u → length h.vertices ≡ count every (without u g.vertices) →
     length h.vertices + 1 ≡ length g.vertices + 0
 one_gone g h u w there left =
     let all = count-every g.vertices ∙ count_front every u g.vertices (distinct g w) there in
     omega (arith, all, left)
 
-changed_gone : (g h : Graph) (u : ℕ) (f : Change) → WellFormed g → Live g u → h.vertices ≡ with_kinds f (without u g.vertices) →
+changed_gone : (g h : Graph) (u : ℕ) (f : Change) → WellFormed g → IsVertex g u → h.vertices ≡ with_kinds f (without u g.vertices) →
     length h.vertices + 1 ≡ length g.vertices + 0
 changed_gone g h u f w there is =
     one_gone g h u w there
@@ -139,8 +139,8 @@ module _ (g : OpenGraph) (f : Flow) (trace : Trace) (w : WellFormed g.graph) (ro
       all e p o n t a b = omega arith
 
 -- what was taken for the graph of a circuit is as much
-pub room_reserved : (g : OpenGraph) (f : Flow) (trace : Trace) → WellFormed g.graph → ((v : ℕ) → Live g.graph v → plane_of g.graph v ≡ XY) →
-    ((v : ℕ) → Live g.graph v → v < length g.graph.vertices) → AreReserved (length g.graph.vertices + 2 * length g.graph.inputs + 2) g f →
+pub room_reserved : (g : OpenGraph) (f : Flow) (trace : Trace) → WellFormed g.graph → ((v : ℕ) → IsVertex g.graph v → plane_of g.graph v ≡ XY) →
+    ((v : ℕ) → IsVertex g.graph v → v < length g.graph.vertices) → AreReserved (length g.graph.vertices + 2 * length g.graph.inputs + 2) g f →
     12 * length g.graph.vertices ≤ trace.spare → HasRoom g f trace
 room_reserved g f trace w planes numbered taken steps =
     let none = not_XY-none g.graph w planes in

@@ -4,7 +4,7 @@ use Rattle.std.specs.Prelude.{Result, Ok, Err, OnOk, IfOk}
 use Rattle.zx_model.specs.Bits.{member}
 use Rattle.zx_model.specs.declared.scalar.Scalar.{Scalar}
 use Rattle.zx_bits.specs.Sets.{IsBelow}
-use Rattle.zx_calculus.specs.Graph.{Graph, End, ids, end_vertices, plane_of, Live, OrderedEnds, WellFormed}
+use Rattle.zx_calculus.specs.Graph.{Graph, End, ids, end_vertices, plane_of, IsVertex, OrderedEnds, WellFormed}
 use Rattle.zx_calculus.specs.Deletions.{IsDelete}
 use Rattle.zx_calculus.specs.Splits.{new_vertex}
 use Rattle.zx_calculus.specs.Steps.{Step, IsStep, allowed, after, LocalComplement, Delete, Pivot, SplitInput, SplitOutput}
@@ -72,7 +72,7 @@ module _ (g : Graph) (table : List Correction) (w : WellFormed g) (flow : IsFlow
       unlisted (seen g) table (Flows-from (seen g) table flow) b step.has_output
 
 -- the vertex of an end is one
-pub end_live : (g : Graph) (ends : List End) (b : ℕ) → OrderedEnds g.vertices ends → member b (end_vertices ends) ≡ true → Live g b
+pub end_live : (g : Graph) (ends : List End) (b : ℕ) → OrderedEnds g.vertices ends → member b (end_vertices ends) ≡ true → IsVertex g b
 end_live g ends b o there = all_at (λ u. member u (ids g.vertices)) (end_vertices ends) b o.there there
 
 -- ---- memory

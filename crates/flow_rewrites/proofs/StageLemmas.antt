@@ -2,10 +2,10 @@
 use Rattle.std.proofs.Common.{◌≡◌, ◌≢◌, refl, sym, ◌∙◌, ap, ap₂, ℕ, Bool, true, false, cond, not, ◌&&◌, eqb, List, ne_eqb, true≢false}
 use mathlib.Core.Bool.{beq}
 use Rattle.zx_model.specs.Bits.{xor, member}
-use Rattle.zx_calculus.specs.Graph.{Graph, Plane, plane_of, Live, WellFormed}
+use Rattle.zx_calculus.specs.Graph.{Graph, Plane, plane_of, IsVertex, WellFormed}
 use Rattle.zx_calculus.proofs.Booleans.{parities, xor-false}
 use Rattle.zx_calculus.proofs.Ids.{eqb-self}
-use Rattle.gflow_laws.specs.Seen.{Seen, seen, odd, complemented, complemented_plane, turned_plane}
+use Rattle.gflow_laws.specs.Seen.{Seen, seen, in_odd_neighbourhood, complemented, complemented_plane, turned_plane}
 use Rattle.gflow_laws.specs.Flow.{Correction, SameSets}
 use Rattle.gflow_laws.specs.Complements.{complement_table}
 use Rattle.gflow_laws.specs.Pivots.{pivot_table}
@@ -63,35 +63,35 @@ module _ (s : Seen) (u w : ℕ) (simple : Simple s) (u_there : member u s.ids �
       ∙ ap₂ (λ a b. xor a (b && false)) wu uw
 
   -- after a local complement about the neighbour w
-  pub odd_second : (A : ℕ → Bool) → odd (complemented s w) A u ≡ xor (xor (odd s A u) (odd s A w)) (A u)
+  pub odd_second : (A : ℕ → Bool) → in_odd_neighbourhood (complemented s w) A u ≡ xor (xor (in_odd_neighbourhood s A u) (in_odd_neighbourhood s A w)) (A u)
   odd_second A =
       odd-complemented s w A u simple u_there
-      ∙ ap (λ b. xor (odd s A u) (b && xor (odd s A w) (A u))) wu
-      ∙ seen_from_neighbour (odd s A u) (odd s A w) (A u)
+      ∙ ap (λ b. xor (in_odd_neighbourhood s A u) (b && xor (in_odd_neighbourhood s A w) (A u))) wu
+      ∙ seen_from_neighbour (in_odd_neighbourhood s A u) (in_odd_neighbourhood s A w) (A u)
 
   -- after one about u and one about w
-  pub odd_third : (A : ℕ → Bool) → odd (complemented (complemented s u) w) A u ≡ xor (xor (odd s A w) (A w)) (A u)
+  pub odd_third : (A : ℕ → Bool) → in_odd_neighbourhood (complemented (complemented s u) w) A u ≡ xor (xor (in_odd_neighbourhood s A w) (A w)) (A u)
   odd_third A =
       odd-complemented (complemented s u) w A u (Simple-complemented s u simple) u_there
-      ∙ ap₂ (λ o b. xor o (b && xor (odd (complemented s u) A w) (A u))) at_u still
-      ∙ ap (λ o. xor (xor (odd s A u) (false && xor (odd s A u) (A u))) (true && xor o (A u))) at_w
-      ∙ seen_from_itself (odd s A u) (odd s A w) (A u) (A w)
+      ∙ ap₂ (λ o b. xor o (b && xor (in_odd_neighbourhood (complemented s u) A w) (A u))) at_u still
+      ∙ ap (λ o. xor (xor (in_odd_neighbourhood s A u) (false && xor (in_odd_neighbourhood s A u) (A u))) (true && xor o (A u))) at_w
+      ∙ seen_from_itself (in_odd_neighbourhood s A u) (in_odd_neighbourhood s A w) (A u) (A w)
     where
-      at_u : odd (complemented s u) A u ≡ xor (odd s A u) (false && xor (odd s A u) (A u))
+      at_u : in_odd_neighbourhood (complemented s u) A u ≡ xor (in_odd_neighbourhood s A u) (false && xor (in_odd_neighbourhood s A u) (A u))
       at_u =
           odd-complemented s u A u simple u_there
-          ∙ ap (λ b. xor (odd s A u) (b && xor (odd s A u) (A u))) (simple.no_loop u)
+          ∙ ap (λ b. xor (in_odd_neighbourhood s A u) (b && xor (in_odd_neighbourhood s A u) (A u))) (simple.no_loop u)
 
-      at_w : odd (complemented s u) A w ≡ xor (odd s A w) (true && xor (odd s A u) (A w))
-      at_w = odd-complemented s u A w simple w_there ∙ ap (λ b. xor (odd s A w) (b && xor (odd s A u) (A w))) uw
+      at_w : in_odd_neighbourhood (complemented s u) A w ≡ xor (in_odd_neighbourhood s A w) (true && xor (in_odd_neighbourhood s A u) (A w))
+      at_w = odd-complemented s u A w simple w_there ∙ ap (λ b. xor (in_odd_neighbourhood s A w) (b && xor (in_odd_neighbourhood s A u) (A w))) uw
 
-  pub second_parity : (A : ℕ → Bool) (o_u o_w a_u : Bool) → o_u ≡ odd s A u → o_w ≡ odd s A w → a_u ≡ A u →
-      not (beq (not (beq o_u o_w)) a_u) ≡ odd (complemented s w) A u
+  pub second_parity : (A : ℕ → Bool) (o_u o_w a_u : Bool) → o_u ≡ in_odd_neighbourhood s A u → o_w ≡ in_odd_neighbourhood s A w → a_u ≡ A u →
+      not (beq (not (beq o_u o_w)) a_u) ≡ in_odd_neighbourhood (complemented s w) A u
   second_parity A o_u o_w a_u e f h =
       three o_u o_w a_u ∙ (λ j. xor (xor (e j) (f j)) (h j)) ∙ sym (odd_second A)
 
-  pub third_parity : (A : ℕ → Bool) (o_w a_w a_u : Bool) → o_w ≡ odd s A w → a_w ≡ A w → a_u ≡ A u →
-      not (beq (not (beq o_w a_w)) a_u) ≡ odd (complemented (complemented s u) w) A u
+  pub third_parity : (A : ℕ → Bool) (o_w a_w a_u : Bool) → o_w ≡ in_odd_neighbourhood s A w → a_w ≡ A w → a_u ≡ A u →
+      not (beq (not (beq o_w a_w)) a_u) ≡ in_odd_neighbourhood (complemented (complemented s u) w) A u
   third_parity A o_w a_w a_u e f h =
       three o_w a_w a_u ∙ (λ j. xor (xor (e j) (f j)) (h j)) ∙ sym (odd_third A)
 
@@ -103,7 +103,7 @@ module _ (s : Seen) (u w : ℕ) (simple : Simple s) (u_there : member u s.ids �
       beside ((complemented s u).plane u) (eqb u w) ((complemented s u).adjacent w u) (ne_eqb u w apart) still
       ∙ ap turned_plane (itself (s.plane u) (eqb u u) (s.adjacent u u) (eqb-self u))
 
-pub plane_of_view : (g : Graph) (u : ℕ) (stage : Stage) → WellFormed g → Live g u → IsBeside g u stage →
+pub plane_of_view : (g : Graph) (u : ℕ) (stage : Stage) → WellFormed g → IsVertex g u → IsBeside g u stage →
     (view stage (seen g) u).plane u ≡ plane_in stage (plane_of g u)
 plane_of_view g u First w live other = refl
 plane_of_view g u (Second v) w live other = plane_second (seen g) u v (Simple-seen g w) live other.0 other.1

@@ -1,7 +1,7 @@
 -- When rewrites and simplification need no memory.
 use Rattle.std.specs.Prelude.{◌≡◌, ◌<◌, ◌≤◌, ◌+◌, ◌*◌, ℕ, length}
 use Rattle.zx_model.specs.Bits.{one_if}
-use Rattle.zx_calculus.specs.Graph.{XY, Graph, plane_of, Live}
+use Rattle.zx_calculus.specs.Graph.{XY, Graph, plane_of, IsVertex}
 use Rattle.zx_calculus.specs.Counts.{not_XY}
 use Rattle.zx_calculus.specs.Steps.{Step, LocalComplement, Delete, Pivot, SplitInput, SplitOutput}
 use Rattle.zx_calculus.specs.Steps.{DropLone, FuseInto, FuseTwin}
@@ -68,8 +68,8 @@ pub record HasRoom (g : OpenGraph) (f : Flow) (trace : Trace) : Type 0 where
 
 -- as in the graph of a circuit all vertices are XY, and their ids are the numbers below that of the vertices
 pub record IsNumberedXY (g : Graph) : Type 0 where
-  pub planes : (v : ℕ) → Live g v → plane_of g v ≡ XY
-  pub ids : (v : ℕ) → Live g v → v < length g.vertices
+  pub planes : (v : ℕ) → IsVertex g v → plane_of g v ≡ XY
+  pub ids : (v : ℕ) → IsVertex g v → v < length g.vertices
 
 -- memory was taken for as many vertices as there are, twice the number of inputs and two more, and for twelve steps a
 -- vertex

@@ -1,7 +1,7 @@
 //! Whether simplification needs no memory.
 
 ghost use Rattle.std.specs.Prelude.{◌≡◌, ◌↔◌, ◌≤◌, ◌+◌, ◌*◌, length, true};
-ghost use Rattle.zx_calculus.specs.Graph.{plane_of, Live, WellFormed};
+ghost use Rattle.zx_calculus.specs.Graph.{plane_of, IsVertex, WellFormed};
 ghost use Rattle.zx_calculus.specs.Counts.{not_XY};
 ghost use Rattle.open_graph.specs.Rooms.{IsAtLeast};
 ghost use Rattle.flow_rewrites.specs.Rooms.{HasRoom, room_needed};
@@ -57,7 +57,7 @@ fn has_steps(g: &OpenGraph, steps: usize) -> bool
 
 // How many steps are needed for a vertex: six for each move that it may be cause of.
 fn steps_at(g: &OpenGraph, v: VertexId) -> usize
-    requires { Live g.now.graph v }
+    requires { IsVertex g.now.graph v }
     ensures { result ≡ steps_needed (plane_of g.now.graph v) }
 {
     match g.weight(v).0 {

@@ -2,13 +2,12 @@
 
 ghost use Rattle.std.specs.Prelude.{◌≡◌, true, false, ℕ, IsOk, OnOk};
 ghost use Rattle.zx_model.specs.Bits.{member};
-ghost use Rattle.zx_calculus.specs.Graph.{joined, plane_of, Live, WellFormed};
+ghost use Rattle.zx_calculus.specs.Graph.{joined, plane_of, IsVertex, WellFormed};
 ghost use Rattle.zx_calculus.specs.Steps.{allowed};
 ghost use Rattle.zx_bits.specs.Sets.{IsBelow};
-ghost use Rattle.gflow_laws.specs.Seen.{seen, odd};
-ghost use Rattle.gflow_laws.specs.Flow.{order_of, set_of, is_in, IsFlow, SameSets};
+ghost use Rattle.gflow_laws.specs.Seen.{seen, in_odd_neighbourhood};
+ghost use Rattle.gflow_laws.specs.Flow.{order_of, set_of, is_in, IsFlow, SameSets, odd_in};
 ghost use Rattle.gflow_laws.specs.Steps.{table_after, complement_table, pivot_table};
-ghost use Rattle.gflow_laws.specs.Correcting.{odd_in};
 ghost use Rattle.move_laws.specs.Orders.{is_split};
 ghost use Rattle.open_graph.specs.Rooms.{IsLeft};
 ghost use Rattle.graph_rewrites.specs.Rooms.{room_after};
@@ -57,8 +56,8 @@ pub(crate) fn change_sets(f: &mut Flow, g: &OpenGraph, step: &Step) -> Result<()
 
 // What a pivot of two adjacent vertices makes of the sets; the graph is that before it.
 fn pivot_sets(f: &mut Flow, g: &OpenGraph, u: VertexId, v: VertexId) -> Result<(), AllocError>
-    requires u_live { Live g.now.graph u }
-    requires v_live { Live g.now.graph v }
+    requires u_live { IsVertex g.now.graph u }
+    requires v_live { IsVertex g.now.graph v }
     requires adjacent { joined g.now.graph.edges u v ≡ true }
     requires u_there { member u (order_of f.old.flow) ≡ true }
     requires v_there { member v (order_of f.old.flow) ≡ true }
@@ -79,7 +78,7 @@ fn complement_sets(
     stage: &Stage,
     u: VertexId,
 ) -> Result<(), AllocError>
-    requires live { Live g.now.graph u }
+    requires live { IsVertex g.now.graph u }
     requires beside { IsBeside g.now.graph u stage.now }
     requires there { member u (order_of f.old.flow) ≡ true }
     ensures table { let s = view stage.now (seen g.now.graph) u in
@@ -100,7 +99,7 @@ fn complement_sets(
 
 // Whether the local complement changes the plane of u.
 fn changes_plane(g: &OpenGraph, stage: &Stage, u: VertexId) -> bool
-    requires { Live g.now.graph u }
+    requires { IsVertex g.now.graph u }
     ensures value { result ≡ odd_in (plane_in stage.now (plane_of g.now.graph u)) }
     ensures valid { WellFormed g.now.graph }
 {
@@ -115,11 +114,11 @@ fn changes_plane(g: &OpenGraph, stage: &Stage, u: VertexId) -> bool
 // Whether u has then an odd number of neighbours in the set of x.
 fn odd_has(f: &Flow, g: &OpenGraph, stage: &Stage, u: VertexId, x: VertexId) -> bool
     requires well_formed { WellFormed g.now.graph }
-    requires live { Live g.now.graph u }
+    requires live { IsVertex g.now.graph u }
     requires beside { IsBeside g.now.graph u stage.now }
     requires there { member x (order_of f.now.flow) ≡ true }
     ensures { let s = view stage.now (seen g.now.graph) u in
-        result ≡ odd s (is_in (set_of f.now.flow x)) u }
+        result ≡ in_odd_neighbourhood s (is_in (set_of f.now.flow x)) u }
 {
     match stage {
         Stage::First => f.odd_has(g, x, u),

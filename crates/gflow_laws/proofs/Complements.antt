@@ -12,9 +12,9 @@ use Rattle.zx_calculus.proofs.Parity.{masked-xor, masked-and}
 use Rattle.zx_calculus.proofs.Ids.{eqb_comm}
 use Rattle.zx_calculus.proofs.Vertices.{ids-with_kinds, kind_of-with_kinds}
 use Rattle.zx_calculus.proofs.Splitting.{joined-self}
-use Rattle.gflow_laws.specs.Correcting.{Simple, odd_in, inside_in, Corrects, Strict, Alike, FlowAsFunctions, Distinct}
-use Rattle.gflow_laws.specs.Seen.{odd, complemented, Seen, complemented_plane, turned_plane, seen}
-use Rattle.gflow_laws.specs.Flow.{is_in, is_later, Correction, set_of, order_of, SameSets, IsFlow}
+use Rattle.gflow_laws.specs.Correcting.{Simple, Strict, Alike, FlowAsFunctions, Distinct}
+use Rattle.gflow_laws.specs.Seen.{in_odd_neighbourhood, complemented, Seen, complemented_plane, turned_plane, seen}
+use Rattle.gflow_laws.specs.Flow.{is_in, is_later, Correction, set_of, order_of, SameSets, IsFlow, odd_in, inside_in, Corrects}
 use Rattle.gflow_laws.specs.Complements.{set_about, set_beside, complement_table}
 use Rattle.gflow_laws.specs.Tables.{symmetric_difference}
 use Rattle.gflow_laws.proofs.Linear.{masked-same, masked-one, masked-of-and}
@@ -37,7 +37,7 @@ gathered x c y z = simp parities
 
 -- who has an odd number of neighbours in a set, after a local complement
 pub odd-complemented : (s : Seen) (u : ℕ) (A : ℕ → Bool) (v : ℕ) → Simple s → member v s.ids ≡ true →
-    odd (complemented s u) A v ≡ xor (odd s A v) (s.adjacent u v && xor (odd s A u) (A v))
+    in_odd_neighbourhood (complemented s u) A v ≡ xor (in_odd_neighbourhood s A v) (s.adjacent u v && xor (in_odd_neighbourhood s A u) (A v))
 odd-complemented s u A v simple there =
     masked-same ((complemented s u).adjacent v) (λ w. xor (s.adjacent v w) (xor (s.adjacent u v && s.adjacent u w) (s.adjacent u v && eqb w v))) s.ids A A
     (λ w _. ap (λ b. b && A w)
@@ -45,16 +45,16 @@ odd-complemented s u A v simple there =
     ∙ off_diagonal (eqb w v) (s.adjacent v w) (s.adjacent u v) (s.adjacent u w)
     (λ e. (ap (s.adjacent v) (eqb-true w v e) ∙ simple.no_loop v, ap (s.adjacent u) (sym (eqb-true w v e))))))
     ∙ masked-xor (s.adjacent v) (λ w. xor (s.adjacent u v && s.adjacent u w) (s.adjacent u v && eqb w v)) s.ids A
-    ∙ ap (xor (odd s A v))
+    ∙ ap (xor (in_odd_neighbourhood s A v))
     (masked-xor (λ w. s.adjacent u v && s.adjacent u w) (λ w. s.adjacent u v && eqb w v) s.ids A
     ∙ ap₂ xor (masked-and (s.adjacent u v) (s.adjacent u) s.ids A)
     (masked-and (s.adjacent u v) (λ w. eqb w v) s.ids A
     ∙ ap (λ b. s.adjacent u v && b) (masked_swapped (λ w. eqb w v) s.ids A ∙ masked-one A s.ids v simple.distinct there)))
-    ∙ gathered (odd s A v) (s.adjacent u v) (odd s A u) (A v)
+    ∙ gathered (in_odd_neighbourhood s A v) (s.adjacent u v) (in_odd_neighbourhood s A u) (A v)
 
 -- u goes in or out of the set where it has an odd number of neighbours in it
 abbrev pub taken : Seen → ℕ → (ℕ → Bool) → ℕ → Bool
-taken s u A w = xor (A w) (odd s A u && eqb w u)
+taken s u A w = xor (A w) (in_odd_neighbourhood s A u && eqb w u)
 
 to_u : (s : Seen) (u v : ℕ) → Simple s → (complemented s u).adjacent v u ≡ s.adjacent u v
 to_u s u v simple = ⊎_elim
@@ -67,13 +67,13 @@ collected : (x n o a : Bool) → xor (xor x (n && xor o a)) (o && n) ≡ xor x (
 collected x n o a = simp parities
 
 pub odd-taken : (s : Seen) (u : ℕ) (A : ℕ → Bool) (v : ℕ) → Simple s → member u s.ids ≡ true → member v s.ids ≡ true →
-    odd (complemented s u) (taken s u A) v ≡ xor (odd s A v) (s.adjacent u v && A v)
+    in_odd_neighbourhood (complemented s u) (taken s u A) v ≡ xor (in_odd_neighbourhood s A v) (s.adjacent u v && A v)
 odd-taken s u A v simple there_u there =
-    odd-xor (complemented s u) A (λ w. odd s A u && eqb w u) v
+    odd-xor (complemented s u) A (λ w. in_odd_neighbourhood s A u && eqb w u) v
     ∙ ap₂ xor (odd-complemented s u A v simple there)
-    (masked-of-and (odd s A u) ((complemented s u).adjacent v) s.ids (λ w. eqb w u)
-    ∙ ap (λ b. odd s A u && b) (masked-one ((complemented s u).adjacent v) s.ids u simple.distinct there_u ∙ to_u s u v simple))
-    ∙ collected (odd s A v) (s.adjacent u v) (odd s A u) (A v)
+    (masked-of-and (in_odd_neighbourhood s A u) ((complemented s u).adjacent v) s.ids (λ w. eqb w u)
+    ∙ ap (λ b. in_odd_neighbourhood s A u && b) (masked-one ((complemented s u).adjacent v) s.ids u simple.distinct there_u ∙ to_u s u v simple))
+    ∙ collected (in_odd_neighbourhood s A v) (s.adjacent u v) (in_odd_neighbourhood s A u) (A v)
 
 inside_about : (p : Plane) → xor (inside_in p) (odd_in p && true) ≡ inside_in (complemented_plane p)
 inside_about XY = refl
@@ -109,12 +109,12 @@ Corrects-taken s before u v A simple there_u interior there a = record {
       (xor_true _ _ (sym (odd-taken s u A w simple there_u within) ∙ e));
   inside = ⊎_elim
       (λ e.
-      ap₂ (λ x b. xor x (odd s A u && b)) a.inside (eq-eqb v u e)
-      ∙ ap (λ o. xor (inside_in (s.plane v)) (o && true)) (ap (odd s A) (sym e) ∙ a.odd_there)
+      ap₂ (λ x b. xor x (in_odd_neighbourhood s A u && b)) a.inside (eq-eqb v u e)
+      ∙ ap (λ o. xor (inside_in (s.plane v)) (o && true)) (ap (in_odd_neighbourhood s A) (sym e) ∙ a.odd_there)
       ∙ inside_about (s.plane v) ∙ sym (ap (λ b. inside_in (plane_at b)) (eq-eqb v u e)))
       (λ ne.
-      ap₂ (λ x b. xor x (odd s A u && b)) a.inside (ne_eqb v u ne)
-      ∙ ap (xor (inside_in (s.plane v))) (and-false (odd s A u)) ∙ xor-false (inside_in (s.plane v))
+      ap₂ (λ x b. xor x (in_odd_neighbourhood s A u && b)) a.inside (ne_eqb v u ne)
+      ∙ ap (xor (inside_in (s.plane v))) (and-false (in_odd_neighbourhood s A u)) ∙ xor-false (inside_in (s.plane v))
       ∙ inside_turned (s.plane v) (s.adjacent u v) ∙ sym (ap (λ b. inside_in (plane_at b)) (ne_eqb v u ne)))
       (cases_eq v u);
   odd_there = odd-taken s u A v simple there_u there ∙ ⊎_elim
@@ -127,8 +127,8 @@ Corrects-taken s before u v A simple there_u interior there a = record {
       (cases_eq v u);
 }
   where
-    is_u : (w : ℕ) → (odd s A u && eqb w u) ≡ true → w ≡ u
-    is_u w e = eqb-true w u (and_parts (odd s A u) (eqb w u) e).1
+    is_u : (w : ℕ) → (in_odd_neighbourhood s A u && eqb w u) ≡ true → w ≡ u
+    is_u w e = eqb-true w u (and_parts (in_odd_neighbourhood s A u) (eqb w u) e).1
 
     plane_at : Bool → Plane
     plane_at b = cond b (complemented_plane (s.plane v)) (cond (s.adjacent u v) (turned_plane (s.plane v)) (s.plane v))
@@ -138,7 +138,7 @@ abbrev pub own_set : Seen → ℕ → (ℕ → Bool) → ℕ → Bool
 own_set s u A w = xor (A w) (odd_in (s.plane u) && eqb w u)
 
 abbrev pub other_set : Seen → ℕ → (ℕ → Bool) → (ℕ → Bool) → ℕ → Bool
-other_set s u own A w = cond (odd s A u) (xor (xor (A w) (own w)) (eqb w u)) (A w)
+other_set s u own A w = cond (in_odd_neighbourhood s A u) (xor (xor (A w) (own w)) (eqb w u)) (A w)
 
 -- the set of u serves after the local complement, with u toggled where it was XY or XZ
 pub Corrects-own : (s : Seen) (before : ℕ → ℕ → Bool) (u : ℕ) (A : ℕ → Bool) → Simple s → member u s.ids ≡ true → s.input u ≡ false →
@@ -164,7 +164,7 @@ Corrects-other s before u v A B strict simple there_u interior there ne a b = �
     subst (λ C. Corrects (complemented s u) before v C)
     (λ i w. (ap (λ o. xor (A w) (o && eqb w u)) e ∙ xor-false (A w) ∙ ap (λ o. cond o (xor (xor (A w) (own_set s u B w)) (eqb w u)) (A w)) (sym e)) i)
     (Corrects-taken s before u v A simple there_u interior there a))
-    (cases_Bool (odd s A u))
+    (cases_Bool (in_odd_neighbourhood s A u))
 
 plane-complement : (p : Plane) (k : ℕ) → (complemented_in p k).plane ≡ complemented_plane p
 plane-complement XY k = refl
@@ -206,7 +206,7 @@ is_in-set_beside s u own members w = ⊎_elim
     ∙ ap (λ b. cond b (xor (xor (is_in members w) (is_in own w)) (eqb w u)) (is_in members w)) (sym e))
     (λ e. ap (λ b. is_in (cond b (symmetric_difference (symmetric_difference members own) (u ∷ [])) members) w) e
     ∙ ap (λ b. cond b (xor (xor (is_in members w) (is_in own w)) (eqb w u)) (is_in members w)) (sym e))
-    (cases_Bool (odd s (is_in members) u))
+    (cases_Bool (in_odd_neighbourhood s (is_in members) u))
 
 -- a local complement about a vertex without ends
 pub Flows-complement : (s : Seen) (u : ℕ) (table : List Correction) → Simple s → member u s.ids ≡ true → s.input u ≡ false → s.output u ≡ false →
@@ -231,7 +231,7 @@ Flows-complement s u table simple there_u no_input no_output f =
         Corrects-same (complemented s u) (is_later (order_of table)) v (other_set s u (own_set s u (is_in (set_of table u))) (is_in (set_of table v))) (is_in (new v))
         (λ w. sym (ap (λ b. is_in (cond b own (set_beside s u own (set_of table v))) w) (ne_eqb v u ne)
         ∙ is_in-set_beside s u own (set_of table v) w
-        ∙ ap (λ o. cond (odd s (is_in (set_of table v)) u) (xor (xor (is_in (set_of table v) w) o) (eqb w u)) (is_in (set_of table v) w)) (is_in-set_about u (s.plane u) (set_of table u) w)))
+        ∙ ap (λ o. cond (in_odd_neighbourhood s (is_in (set_of table v)) u) (xor (xor (is_in (set_of table v) w) o) (eqb w u)) (is_in (set_of table v) w)) (is_in-set_about u (s.plane u) (set_of table u) w)))
         (Corrects-other s (is_later (order_of table)) u v (is_in (set_of table v)) (is_in (set_of table u)) (is_later-strict (order_of table)) simple there_u no_input
         (live s table f v there) (λ e. ne (sym e)) (f.corrects v there) (f.corrects u (listed s table f u there_u no_output)))
 

@@ -4,9 +4,9 @@ use Rattle.std.specs.List.{list_all}
 use Rattle.std.proofs.lemmas.Bool.{cases_eq, true≢false, and_parts, not-true, or_right, or_left}
 use Rattle.zx_model.specs.Bits.{member}
 use Rattle.zx_calculus.specs.Graph.{Plane, XY, XZ, YZ}
-use Rattle.gflow_laws.specs.Seen.{Seen, odd}
-use Rattle.gflow_laws.specs.Flow.{Correction, order_of, set_of, is_in, is_later, plane_holds, IsFlowOf}
-use Rattle.gflow_laws.specs.Correcting.{Alike, Distinct, FlowAsFunctions, inside_in, odd_in}
+use Rattle.gflow_laws.specs.Seen.{Seen, in_odd_neighbourhood}
+use Rattle.gflow_laws.specs.Flow.{Correction, order_of, set_of, is_in, is_later, plane_holds, IsFlowOf, inside_in, odd_in}
+use Rattle.gflow_laws.specs.Correcting.{Alike, Distinct, FlowAsFunctions}
 use Rattle.gflow_laws.proofs.Corrects.{Corrects-alike}
 use Rattle.zx_calculus.proofs.Ids.{Distinct-different}
 use Rattle.zx_calculus.proofs.Splitting.{all_at}
@@ -33,16 +33,16 @@ implied_from true a h = h refl
 implied_from false a h = refl
 
 inside_from : (s : Seen) (p : Plane) (v : ℕ) (members : List ℕ) → plane_holds s p v members ≡ true → is_in members v ≡ inside_in p
-inside_from s XY v members e = not-true (is_in members v) (and_parts (not (is_in members v)) (odd s (is_in members) v) e).0
-inside_from s XZ v members e = (and_parts (is_in members v) (odd s (is_in members) v) e).0
-inside_from s YZ v members e = (and_parts (is_in members v) (not (odd s (is_in members) v)) e).0
+inside_from s XY v members e = not-true (is_in members v) (and_parts (not (is_in members v)) (in_odd_neighbourhood s (is_in members) v) e).0
+inside_from s XZ v members e = (and_parts (is_in members v) (in_odd_neighbourhood s (is_in members) v) e).0
+inside_from s YZ v members e = (and_parts (is_in members v) (not (in_odd_neighbourhood s (is_in members) v)) e).0
 
-odd_from : (s : Seen) (p : Plane) (v : ℕ) (members : List ℕ) → plane_holds s p v members ≡ true → odd s (is_in members) v ≡ odd_in p
-odd_from s XY v members e = (and_parts (not (is_in members v)) (odd s (is_in members) v) e).1
-odd_from s XZ v members e = (and_parts (is_in members v) (odd s (is_in members) v) e).1
-odd_from s YZ v members e = not-true (odd s (is_in members) v) (and_parts (is_in members v) (not (odd s (is_in members) v)) e).1
+odd_from : (s : Seen) (p : Plane) (v : ℕ) (members : List ℕ) → plane_holds s p v members ≡ true → in_odd_neighbourhood s (is_in members) v ≡ odd_in p
+odd_from s XY v members e = (and_parts (not (is_in members v)) (in_odd_neighbourhood s (is_in members) v) e).1
+odd_from s XZ v members e = (and_parts (is_in members v) (in_odd_neighbourhood s (is_in members) v) e).1
+odd_from s YZ v members e = not-true (in_odd_neighbourhood s (is_in members) v) (and_parts (is_in members v) (not (in_odd_neighbourhood s (is_in members) v)) e).1
 
-plane_from : (s : Seen) (p : Plane) (v : ℕ) (members : List ℕ) → is_in members v ≡ inside_in p → odd s (is_in members) v ≡ odd_in p → plane_holds s p v members ≡ true
+plane_from : (s : Seen) (p : Plane) (v : ℕ) (members : List ℕ) → is_in members v ≡ inside_in p → in_odd_neighbourhood s (is_in members) v ≡ odd_in p → plane_holds s p v members ≡ true
 plane_from s XY v members i o = ap₂ (λ a b. not a && b) i o
 plane_from s XZ v members i o = ap₂ (λ a b. a && b) i o
 plane_from s YZ v members i o = ap₂ (λ a b. a && not b) i o
@@ -72,9 +72,9 @@ Flows-from s table f = record {
         (all_at (λ x. eqb x v || is_later (order_of table) v x) (set_of table v) w
         (all_at (λ x. list_all (λ y. eqb y x || is_later (order_of table) x y) (set_of table x)) (order_of table) v f.order there) e);
     odd_order = λ w within e ne. other_or (eqb w v) (is_later (order_of table) v w) (ne_eqb w v ne)
-        (implied (odd s (is_in (set_of table v)) w) (eqb w v || is_later (order_of table) v w)
-        (all_at (λ x. not (odd s (is_in (set_of table v)) x) || (eqb x v || is_later (order_of table) v x)) s.ids w
-        (all_at (λ x. list_all (λ y. not (odd s (is_in (set_of table x)) y) || (eqb y x || is_later (order_of table) x y)) s.ids) (order_of table) v f.odd there) within) e);
+        (implied (in_odd_neighbourhood s (is_in (set_of table v)) w) (eqb w v || is_later (order_of table) v w)
+        (all_at (λ x. not (in_odd_neighbourhood s (is_in (set_of table v)) x) || (eqb x v || is_later (order_of table) v x)) s.ids w
+        (all_at (λ x. list_all (λ y. not (in_odd_neighbourhood s (is_in (set_of table x)) y) || (eqb y x || is_later (order_of table) x y)) s.ids) (order_of table) v f.odd there) within) e);
     inside = inside_from s (s.plane v) v (set_of table v) (all_at (λ x. plane_holds s (s.plane x) x (set_of table x)) (order_of table) v f.plane there);
     odd_there = odd_from s (s.plane v) v (set_of table v) (all_at (λ x. plane_holds s (s.plane x) x (set_of table x)) (order_of table) v f.plane there);
   };
@@ -98,9 +98,9 @@ IsFlowOf-from s table f = record {
   order = all_by (λ x. list_all (λ y. eqb y x || is_later (order_of table) x y) (set_of table x)) (order_of table)
       (λ v there. all_by (λ x. eqb x v || is_later (order_of table) v x) (set_of table v)
       (λ w e. or_other w v (is_later (order_of table) v w) ((f.corrects v there).order w e)));
-  odd = all_by (λ x. list_all (λ y. not (odd s (is_in (set_of table x)) y) || (eqb y x || is_later (order_of table) x y)) s.ids) (order_of table)
-      (λ v there. all_by (λ x. not (odd s (is_in (set_of table v)) x) || (eqb x v || is_later (order_of table) v x)) s.ids
-      (λ w e. implied_from (odd s (is_in (set_of table v)) w) (eqb w v || is_later (order_of table) v w)
+  odd = all_by (λ x. list_all (λ y. not (in_odd_neighbourhood s (is_in (set_of table x)) y) || (eqb y x || is_later (order_of table) x y)) s.ids) (order_of table)
+      (λ v there. all_by (λ x. not (in_odd_neighbourhood s (is_in (set_of table v)) x) || (eqb x v || is_later (order_of table) v x)) s.ids
+      (λ w e. implied_from (in_odd_neighbourhood s (is_in (set_of table v)) w) (eqb w v || is_later (order_of table) v w)
       (λ h. or_other w v (is_later (order_of table) v w) ((f.corrects v there).odd_order w e h))));
   plane = all_by (λ x. plane_holds s (s.plane x) x (set_of table x)) (order_of table)
       (λ v there. plane_from s (s.plane v) v (set_of table v) (f.corrects v there).inside (f.corrects v there).odd_there);

@@ -7,11 +7,11 @@ use Rattle.zx_calculus.proofs.Booleans.{parities, xor-false, and-false, and-true
 use Rattle.zx_calculus.proofs.Ids.{by_test, by_equal, and-left, and-right, or-left, or-right, eqb-self, eqb_comm, member-here, member-filter, Distinct-removed, removed, apart_of_member}
 use Rattle.zx_calculus.proofs.Splitting.{interior_of, off_XY}
 use Rattle.zx_calculus.proofs.Kept.{both}
-use Rattle.gflow_laws.specs.Seen.{Seen, seen, odd}
-use Rattle.gflow_laws.specs.Flow.{Correction, order_of, set_of, is_in, is_later, IsFlow}
+use Rattle.gflow_laws.specs.Seen.{Seen, seen, in_odd_neighbourhood}
+use Rattle.gflow_laws.specs.Flow.{Correction, order_of, set_of, is_in, is_later, IsFlow, Corrects, inside_in, odd_in}
 use Rattle.gflow_laws.specs.Tables.{with_sets, without_set, symmetric_difference}
 use Rattle.gflow_laws.specs.Removals.{removal_table}
-use Rattle.gflow_laws.specs.Correcting.{Alike, Corrects, Distinct, FlowAsFunctions, Simple, inside_in, odd_in}
+use Rattle.gflow_laws.specs.Correcting.{Alike, Distinct, FlowAsFunctions, Simple}
 use Rattle.gflow_laws.specs.Outputs.{with_row_added, MayAddRow, row_added_set, row_added_table, IsLast, IsLeafOutput, others, without_vertex, advanced, advanced_table, last_removed_table}
 use Rattle.gflow_laws.proofs.Linear.{masked-same, masked-none, masked-of-xor, masked-one}
 use Rattle.gflow_laws.proofs.Removals.{removed_from, odd-removed, Flows-removal}
@@ -82,22 +82,22 @@ last-members s pre e last w there ne =
 
 -- no output has an odd number of neighbours in a set of outputs
 no_odd_output : (s : Seen) (A : ℕ → Bool) (w : ℕ) → ((p q : ℕ) → s.output p ≡ true → s.output q ≡ true → s.adjacent p q ≡ false) →
-    ((x : ℕ) → A x ≡ true → s.output x ≡ true) → s.output w ≡ true → odd s A w ≡ false
+    ((x : ℕ) → A x ≡ true → s.output x ≡ true) → s.output w ≡ true → in_odd_neighbourhood s A w ≡ false
 no_odd_output s A w apart outputs at_w = masked-none (s.adjacent w) s.ids A (λ x _. by_test (A x)
     (λ t. ap (λ b. b && A x) (apart w x at_w (outputs x t)))
     (λ f. ap (λ b. s.adjacent w x && b) f ∙ and-false (s.adjacent w x)))
 
 -- outside the outputs the last set has no odd neighbour but its vertex
-no_odd_inner : (s : Seen) (pre : List Correction) (e : Correction) → IsLast s pre e → (w : ℕ) → member w s.ids ≡ true → s.output w ≡ false → w ≢ e.vertex → odd s (is_in e.members) w ≡ false
-no_odd_inner s pre e last w within none ne = by_test (odd s (is_in e.members) w)
+no_odd_inner : (s : Seen) (pre : List Correction) (e : Correction) → IsLast s pre e → (w : ℕ) → member w s.ids ≡ true → s.output w ≡ false → w ≢ e.vertex → in_odd_neighbourhood s (is_in e.members) w ≡ false
+no_odd_inner s pre e last w within none ne = by_test (in_odd_neighbourhood s (is_in e.members) w)
     (λ t. absurd (true≢false (sym (later_output s pre e last.flow w within ((last_corrects s pre e last.flow).odd_order w within t ne)) ∙ none)))
     (λ f. f)
 
 -- an XY vertex is alone in the odd neighbourhood of its set
 pub last-XY : (s : Seen) (pre : List Correction) (e : Correction) → IsLast s pre e → s.plane e.vertex ≡ XY → (w : ℕ) → member w s.ids ≡ true →
-    odd s (is_in e.members) w ≡ eqb w e.vertex
+    in_odd_neighbourhood s (is_in e.members) w ≡ eqb w e.vertex
 last-XY s pre e last plane w within = by_equal w e.vertex
-    (λ t same. ap (odd s (is_in e.members)) same ∙ a.odd_there ∙ ap odd_in plane ∙ sym t)
+    (λ t same. ap (in_odd_neighbourhood s (is_in e.members)) same ∙ a.odd_there ∙ ap odd_in plane ∙ sym t)
     (λ f ne. by_test (s.output w) (no_odd_output s (is_in e.members) w last.apart outputs) (λ none. no_odd_inner s pre e last w within none ne) ∙ sym f)
   where
     a : Corrects s (is_later (order_of (pre ++ e ∷ []))) e.vertex (is_in e.members)
@@ -120,7 +120,7 @@ cleared o a x e = sym (ap (λ b. xor b x) e ∙ simp parities)
 
 -- the rows of the other members of the set of a YZ vertex add up to those of its neighbours that aren't outputs
 pub last-YZ : (s : Seen) (pre : List Correction) (e : Correction) → IsLast s pre e → s.plane e.vertex ≡ YZ → (w : ℕ) → member w s.ids ≡ true →
-    odd s (others e) w ≡ (s.adjacent e.vertex w && not (s.output w))
+    in_odd_neighbourhood s (others e) w ≡ (s.adjacent e.vertex w && not (s.output w))
 last-YZ s pre e last plane w within = by_test (s.output w)
     (λ out. no_odd_output s (others e) w last.apart (others_are_outputs s pre e last) out ∙ sym (ap (λ b. s.adjacent e.vertex w && not b) out ∙ and-false (s.adjacent e.vertex w)))
     (λ none. split ∙ ap₂ xor (own none) (last.simple.symmetric w e.vertex) ∙ sym (ap (λ b. s.adjacent e.vertex w && not b) none ∙ and-true (s.adjacent e.vertex w)))
@@ -131,17 +131,17 @@ last-YZ s pre e last plane w within = by_test (s.output w)
     there : member e.vertex s.ids ≡ true
     there = live s (pre ++ e ∷ []) last.flow e.vertex (last_listed pre e)
 
-    own : s.output w ≡ false → odd s (is_in e.members) w ≡ false
-    own none = by_equal w e.vertex (λ t same. ap (odd s (is_in e.members)) same ∙ a.odd_there ∙ ap odd_in plane) (λ f ne. no_odd_inner s pre e last w within none ne)
+    own : s.output w ≡ false → in_odd_neighbourhood s (is_in e.members) w ≡ false
+    own none = by_equal w e.vertex (λ t same. ap (in_odd_neighbourhood s (is_in e.members)) same ∙ a.odd_there ∙ ap odd_in plane) (λ f ne. no_odd_inner s pre e last w within none ne)
 
-    split : odd s (others e) w ≡ xor (odd s (is_in e.members) w) (s.adjacent w e.vertex)
-    split = cleared (odd s (is_in e.members) w) (odd s (others e) w) (s.adjacent w e.vertex)
+    split : in_odd_neighbourhood s (others e) w ≡ xor (in_odd_neighbourhood s (is_in e.members) w) (s.adjacent w e.vertex)
+    split = cleared (in_odd_neighbourhood s (is_in e.members) w) (in_odd_neighbourhood s (others e) w) (s.adjacent w e.vertex)
         (masked-same (s.adjacent w) (s.adjacent w) s.ids (is_in e.members) (λ x. xor (others e x) (eqb x e.vertex))
         (λ x _. ap (λ b. s.adjacent w x && b) (with_itself (is_in e.members) e.vertex x (a.inside ∙ ap inside_in plane)))
         ∙ masked-of-xor (s.adjacent w) s.ids (others e) (λ x. eqb x e.vertex)
-        ∙ ap (xor (odd s (others e) w)) (masked-one (s.adjacent w) s.ids e.vertex last.simple.distinct there))
+        ∙ ap (xor (in_odd_neighbourhood s (others e) w)) (masked-one (s.adjacent w) s.ids e.vertex last.simple.distinct there))
 
-pub last-not_odd : (s : Seen) (pre : List Correction) (e : Correction) → IsLast s pre e → s.plane e.vertex ≡ YZ → odd s (others e) e.vertex ≡ false
+pub last-not_odd : (s : Seen) (pre : List Correction) (e : Correction) → IsLast s pre e → s.plane e.vertex ≡ YZ → in_odd_neighbourhood s (others e) e.vertex ≡ false
 last-not_odd s pre e last plane =
     last-YZ s pre e last plane e.vertex (live s (pre ++ e ∷ []) last.flow e.vertex (last_listed pre e)) ∙ ap (λ b. b && not (s.output e.vertex)) (last.simple.no_loop e.vertex)
 
@@ -160,9 +160,9 @@ last-row_added s c t pre e may last = record {
       (ap₂ (λ a b. xor (eqb t p && a) (b && eqb t q)) (last.apart c q may.output at_q) (last.apart c p may.output at_p) ∙ xor-false (eqb t p && false) ∙ and-false (eqb t p));
 }
 
-row_of_one : (s : Seen) (A : ℕ → Bool) (x w : ℕ) → Simple s → member x s.ids ≡ true → ((y : ℕ) → A y ≡ eqb y x) → odd s A w ≡ s.adjacent x w
+row_of_one : (s : Seen) (A : ℕ → Bool) (x w : ℕ) → Simple s → member x s.ids ≡ true → ((y : ℕ) → A y ≡ eqb y x) → in_odd_neighbourhood s A w ≡ s.adjacent x w
 row_of_one s A x w simple there one =
-    ap (λ B. odd s B w) (λ i y. one y i) ∙ masked-one (s.adjacent w) s.ids x simple.distinct there ∙ simple.symmetric w x
+    ap (λ B. in_odd_neighbourhood s B w) (λ i y. one y i) ∙ masked-one (s.adjacent w) s.ids x simple.distinct there ∙ simple.symmetric w x
 
 member_there : (s : Seen) (pre : List Correction) (e : Correction) → IsLast s pre e → (x : ℕ) → is_in e.members x ≡ true → member x s.ids ≡ true
 member_there s pre e last = (last_corrects s pre e last.flow).members
@@ -216,9 +216,9 @@ removal-last pre e distinct =
     ap₂ (λ own rest. with_sets (λ v members. cond (is_in members e.vertex) (symmetric_difference members own) members) rest) (set_of-last pre e out) (without_set-last pre e out)
 
 -- without x a set has the same odd neighbours, but for those of x
-odd-advanced : (s : Seen) (x v : ℕ) (A : ℕ → Bool) (w : ℕ) → Simple s → s.adjacent x w ≡ false → odd (advanced s x v) (λ y. A y && different x y) w ≡ odd s A w
+odd-advanced : (s : Seen) (x v : ℕ) (A : ℕ → Bool) (w : ℕ) → Simple s → s.adjacent x w ≡ false → in_odd_neighbourhood (advanced s x v) (λ y. A y && different x y) w ≡ in_odd_neighbourhood s A w
 odd-advanced s x v A w simple off =
-    ap (λ t. odd t B w) (same_rest s x) ∙ odd-removed s x B w (ap (λ b. A x && not b) (eqb-self x) ∙ and-false (A x))
+    ap (λ t. in_odd_neighbourhood t B w) (same_rest s x) ∙ odd-removed s x B w (ap (λ b. A x && not b) (eqb-self x) ∙ and-false (A x))
     ∙ masked-same (s.adjacent w) (s.adjacent w) s.ids B A (λ y _. by_equal x y
     (λ t same. let apart : s.adjacent w y ≡ false = ap (s.adjacent w) (sym same) ∙ simple.symmetric w x ∙ off in ap (λ b. b && B y) apart ∙ sym (ap (λ b. b && A y) apart))
     (λ f ne. ap (λ b. s.adjacent w y && (A y && not b)) f ∙ ap (λ b. s.adjacent w y && b) (and-true (A y))))

@@ -7,10 +7,10 @@ use Rattle.zx_calculus.proofs.Booleans.{parities, xor-false, xor-same, and-false
 use Rattle.zx_calculus.proofs.Ids.{by_test, and-right, eqb_comm}
 use Rattle.zx_calculus.proofs.Parity.{masked-xor, masked-and}
 use Rattle.zx_calculus.proofs.Splits.{is_pair_comm, is_pair-self}
-use Rattle.gflow_laws.specs.Seen.{Seen, seen, odd}
-use Rattle.gflow_laws.specs.Flow.{Correction, order_of, set_of, is_in, is_later, IsFlow}
+use Rattle.gflow_laws.specs.Seen.{Seen, seen, in_odd_neighbourhood}
+use Rattle.gflow_laws.specs.Flow.{Correction, order_of, set_of, is_in, is_later, IsFlow, Corrects, inside_in, odd_in}
 use Rattle.gflow_laws.specs.Tables.{symmetric_difference}
-use Rattle.gflow_laws.specs.Correcting.{Alike, Corrects, Distinct, FlowAsFunctions, Simple, inside_in, odd_in}
+use Rattle.gflow_laws.specs.Correcting.{Alike, Distinct, FlowAsFunctions, Simple}
 use Rattle.gflow_laws.specs.Outputs.{toggled, with_row_added, MayAddRow, row_added_set, row_added_table}
 use Rattle.gflow_laws.proofs.Lists.{is_later-outside, is_in-symmetric_difference, is_in-one}
 use Rattle.gflow_laws.proofs.Linear.{masked-same, masked-of-xor, masked-of-and, masked-one}
@@ -21,12 +21,12 @@ use Rattle.gflow_laws.proofs.Views.{Simple-seen}
 
 -- what has changed where it comes after v doesn't matter to v
 pub Corrects-changed : (s t : Seen) (before before' : ℕ → ℕ → Bool) (v : ℕ) (A B : ℕ → Bool) →
-    t.plane v ≡ s.plane v → B v ≡ A v → odd t B v ≡ odd s A v →
+    t.plane v ≡ s.plane v → B v ≡ A v → in_odd_neighbourhood t B v ≡ in_odd_neighbourhood s A v →
     ((w : ℕ) → before v w ≡ true → before' v w ≡ true) →
     ((w : ℕ) → B w ≡ true → member w t.ids ≡ true) →
     ((w : ℕ) → B w ≡ true → t.input w ≡ false) →
     ((w : ℕ) → B w ≡ true → (A w ≡ true) ⊎ (before' v w ≡ true)) →
-    ((w : ℕ) → member w t.ids ≡ true → w ≢ v → ((member w s.ids ≡ true) × (odd t B w ≡ odd s A w)) ⊎ (before' v w ≡ true)) →
+    ((w : ℕ) → member w t.ids ≡ true → w ≢ v → ((member w s.ids ≡ true) × (in_odd_neighbourhood t B w ≡ in_odd_neighbourhood s A w)) ⊎ (before' v w ≡ true)) →
     Corrects s before v A → Corrects t before' v B
 Corrects-changed s t before before' v A B plane same odd_same keeps members input old odds a = record {
   members = members;
@@ -53,14 +53,14 @@ pub flow_seen : (s : Seen) (h : Graph) (table : List Correction) → Distinct s.
 flow_seen s h table distinct wf alike f = IsFlowOf-from (seen h) table (Flows-alike s (seen h) table distinct (Simple-seen h wf).distinct alike f)
 
 -- an edge between outputs
-odd-toggled : (s : Seen) (p q : ℕ) (A : ℕ → Bool) (v : ℕ) → v ≢ p → v ≢ q → odd (toggled s p q) A v ≡ odd s A v
+odd-toggled : (s : Seen) (p q : ℕ) (A : ℕ → Bool) (v : ℕ) → v ≢ p → v ≢ q → in_odd_neighbourhood (toggled s p q) A v ≡ in_odd_neighbourhood s A v
 odd-toggled s p q A v np nq = masked-same ((toggled s p q).adjacent v) (s.adjacent v) s.ids A A (λ w _. ap (λ b. b && A w)
     (ap₂ (λ b c. xor (s.adjacent v w) ((b && eqb w q) || (c && eqb w p))) (ne_eqb v p np) (ne_eqb v q nq) ∙ xor-false (s.adjacent v w)))
 
 pub Flows-toggled : (s : Seen) (p q : ℕ) (table : List Correction) → s.output p ≡ true → s.output q ≡ true → FlowAsFunctions s table → FlowAsFunctions (toggled s p q) table
 Flows-toggled s p q table at_p at_q f = record { each_once = f.each_once; non_outputs = f.non_outputs; corrects = corrected }
   where
-    same : (A : ℕ → Bool) (w : ℕ) → s.output w ≡ false → odd (toggled s p q) A w ≡ odd s A w
+    same : (A : ℕ → Bool) (w : ℕ) → s.output w ≡ false → in_odd_neighbourhood (toggled s p q) A w ≡ in_odd_neighbourhood s A w
     same A w none = odd-toggled s p q A w (not_output s w p none at_p) (not_output s w q none at_q)
 
     corrected : (v : ℕ) → member v (order_of table) ≡ true → Corrects (toggled s p q) (is_later (order_of table)) v (is_in (set_of table v))
@@ -93,17 +93,17 @@ at_t : (A : ℕ → Bool) (c t : ℕ) → t ≢ c → with_toggled c t A t ≡ A
 at_t A c t ne = ap (λ b. xor (A t) (A t && b)) (ne_eqb t c ne) ∙ ap (xor (A t)) (and-false (A t)) ∙ xor-false (A t)
 
 pub odd-row_added : (s : Seen) (c t : ℕ) (A : ℕ → Bool) (v : ℕ) → Simple s → member c s.ids ≡ true → member t s.ids ≡ true → t ≢ c → v ≢ t →
-    odd (with_row_added s c t) (with_toggled c t A) v ≡ odd s A v
+    in_odd_neighbourhood (with_row_added s c t) (with_toggled c t A) v ≡ in_odd_neighbourhood s A v
 odd-row_added s c t A v simple there_c there_t ne nv =
     masked-same ((with_row_added s c t).adjacent v) (λ w. xor (s.adjacent v w) (s.adjacent c v && eqb t w)) s.ids B B
     (λ w _. ap (λ b. xor (s.adjacent v w) (xor (b && s.adjacent c w) (s.adjacent c v && eqb t w)) && B w) (ne_eqb t v (λ e. nv (sym e))))
     ∙ masked-xor (s.adjacent v) (λ w. s.adjacent c v && eqb t w) s.ids B
     ∙ ap₂ xor
-    (masked-of-xor (s.adjacent v) s.ids A (λ w. A t && eqb w c) ∙ ap (xor (odd s A v)) (masked-of-and (A t) (s.adjacent v) s.ids (λ w. eqb w c) ∙ ap (λ b. A t && b) (masked-one (s.adjacent v) s.ids c simple.distinct there_c)))
+    (masked-of-xor (s.adjacent v) s.ids A (λ w. A t && eqb w c) ∙ ap (xor (in_odd_neighbourhood s A v)) (masked-of-and (A t) (s.adjacent v) s.ids (λ w. eqb w c) ∙ ap (λ b. A t && b) (masked-one (s.adjacent v) s.ids c simple.distinct there_c)))
     (masked-and (s.adjacent c v) (eqb t) s.ids B
     ∙ ap (λ b. s.adjacent c v && b) (masked-same (eqb t) B s.ids B (λ w. eqb w t) (λ w _. and_comm (eqb t w) (B w) ∙ ap (λ b. B w && b) (eqb_comm t w)) ∙ masked-one B s.ids t simple.distinct there_t ∙ at_t A c t ne)
     ∙ ap (λ b. b && A t) (simple.symmetric c v))
-    ∙ cancelled (odd s A v) (A t) (s.adjacent v c)
+    ∙ cancelled (in_odd_neighbourhood s A v) (A t) (s.adjacent v c)
   where
     B : ℕ → Bool
     B = with_toggled c t A
@@ -123,7 +123,7 @@ Flows-row_added s c t table simple may f =
     before : ℕ → ℕ → Bool
     before = is_later (order_of table)
 
-    same : (A : ℕ → Bool) (w : ℕ) → s.output w ≡ false → odd (with_row_added s c t) (with_toggled c t A) w ≡ odd s A w
+    same : (A : ℕ → Bool) (w : ℕ) → s.output w ≡ false → in_odd_neighbourhood (with_row_added s c t) (with_toggled c t A) w ≡ in_odd_neighbourhood s A w
     same A w none = odd-row_added s c t A w simple may.there may.there_too (λ e. may.apart (sym e)) (not_output s w t none may.output_too)
 
     old_or_c : (A : ℕ → Bool) (w : ℕ) → with_toggled c t A w ≡ true → (A w ≡ true) ⊎ (w ≡ c)

@@ -11,10 +11,10 @@ use Rattle.zx_calculus.proofs.Vertices.{kind_of-without, ids-with_kinds, kind_of
 use Rattle.zx_calculus.proofs.Forms.{ids-without}
 use Rattle.zx_calculus.proofs.Splitting.{interior_of, off_XY}
 use Rattle.zx_calculus.proofs.Counting.{YZ_apart}
-use Rattle.gflow_laws.specs.Seen.{Seen, odd, seen}
-use Rattle.gflow_laws.specs.Correcting.{Corrects, inside_in, Strict, Alike, FlowAsFunctions, Distinct}
+use Rattle.gflow_laws.specs.Seen.{Seen, in_odd_neighbourhood, seen}
+use Rattle.gflow_laws.specs.Correcting.{Strict, Alike, FlowAsFunctions, Distinct}
 use Rattle.gflow_laws.specs.Tables.{without_set, symmetric_difference}
-use Rattle.gflow_laws.specs.Flow.{is_later, Correction, is_in, set_of, order_of, SameSets, IsFlow}
+use Rattle.gflow_laws.specs.Flow.{is_later, Correction, is_in, set_of, order_of, SameSets, IsFlow, Corrects, inside_in}
 use Rattle.gflow_laws.specs.Removals.{removal_table}
 use Rattle.gflow_laws.proofs.Linear.{removed, masked-same, masked-of-removed, member-removed, Distinct-removed}
 use Rattle.gflow_laws.proofs.Corrects.{absorb}
@@ -33,7 +33,7 @@ not_u A u w out = ⊎_elim
     (λ ne. ap (λ b. not b && A w) (ne_eqb w u ne))
     (cases_eq w u)
 
-pub odd-removed : (s : Seen) (u : ℕ) (A : ℕ → Bool) (v : ℕ) → A u ≡ false → odd (removed_from s u) A v ≡ odd s A v
+pub odd-removed : (s : Seen) (u : ℕ) (A : ℕ → Bool) (v : ℕ) → A u ≡ false → in_odd_neighbourhood (removed_from s u) A v ≡ in_odd_neighbourhood s A v
 odd-removed s u A v out =
     masked-of-removed (s.adjacent v) u s.ids A
     ∙ masked-same (s.adjacent v) (s.adjacent v) s.ids (λ w. not (eqb w u) && A w) A (λ w _. ap (λ b. s.adjacent v w && b) (not_u A u w out))

@@ -1,7 +1,7 @@
 -- What every rewrite keeps: that it is its step and that its sets are those of the step is all that it has to show.
 use Rattle.std.proofs.Common.{◌≡◌, ◌≢◌, sym, ap, ℕ, true, List}
 use Rattle.zx_model.specs.Bits.{member}
-use Rattle.zx_calculus.specs.Graph.{XY, Graph, plane_of, Live, Interior, WellFormed}
+use Rattle.zx_calculus.specs.Graph.{XY, Graph, plane_of, IsVertex, Interior, WellFormed}
 use Rattle.zx_calculus.specs.Steps.{Step, IsStep}
 use Rattle.zx_calculus.proofs.Splitting.{interior_of, off_XY}
 use Rattle.zx_calculus.proofs.Steps.{step_kept, step_sum_times, step_odd}
@@ -32,12 +32,12 @@ same_of_equal e = record { order = ap order_of e; members = λ v w. ap (λ t. is
 
 -- an interior vertex stands in the order
 pub interior_listed : (g : Graph) (table : List Correction) (u : ℕ) →
-    IsFlow g table → Live g u → Interior g u → member u (order_of table) ≡ true
+    IsFlow g table → IsVertex g u → Interior g u → member u (order_of table) ≡ true
 interior_listed g table u flow there interior =
     listed (seen g) table (Flows-from (seen g) table flow) u there interior.no_output
 
 -- and so does one that isn't XY
 pub measured_listed : (g : Graph) (table : List Correction) (u : ℕ) →
-    WellFormed g → IsFlow g table → Live g u → plane_of g u ≢ XY → member u (order_of table) ≡ true
+    WellFormed g → IsFlow g table → IsVertex g u → plane_of g u ≢ XY → member u (order_of table) ≡ true
 measured_listed g table u w flow there plane =
     interior_listed g table u flow there (interior_of g u w (off_XY (plane_of g u) plane))

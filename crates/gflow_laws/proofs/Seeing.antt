@@ -5,8 +5,8 @@ use Rattle.zx_model.specs.Bits.{member}
 use Rattle.zx_calculus.specs.Graph.{XY, Graph, ids, plane_of, joined, end_vertices, WellFormed}
 use Rattle.zx_calculus.specs.Parity.{masked}
 use Rattle.gflow_laws.specs.Seen.{seen}
-use Rattle.gflow_laws.specs.Flow.{Correction, order_of, set_of, is_in, is_later, IsFlowOf, IsFlow, SameSets}
-use Rattle.gflow_laws.specs.Correcting.{Alike, Corrects, FlowAsFunctions, odd_in}
+use Rattle.gflow_laws.specs.Flow.{Correction, order_of, set_of, is_in, is_later, IsFlowOf, IsFlow, SameSets, Corrects, odd_in}
+use Rattle.gflow_laws.specs.Correcting.{Alike, FlowAsFunctions}
 use Rattle.gflow_laws.proofs.Linear.{member-here, member-there}
 use Rattle.gflow_laws.proofs.Corrects.{xor_true}
 use Rattle.gflow_laws.proofs.Flows.{Flows-from, IsFlowOf-from, Flows-alike, listed}

@@ -13,10 +13,10 @@ use Rattle.zx_calculus.proofs.Kept.{kind_of-insert_other, in_order-insert}
 use Rattle.zx_calculus.proofs.Vertices.{member-insert, kind_of-insert}
 use Rattle.zx_calculus.proofs.Splitting.{joined-absent, all_at, plane_XY, absent_from}
 use Rattle.zx_calculus.proofs.Splits.{member-move_end}
-use Rattle.gflow_laws.specs.Seen.{Seen, odd, seen}
-use Rattle.gflow_laws.specs.Correcting.{Distinct, Corrects, odd_in, inside_in, FlowAsFunctions}
+use Rattle.gflow_laws.specs.Seen.{Seen, in_odd_neighbourhood, seen}
+use Rattle.gflow_laws.specs.Correcting.{Distinct, FlowAsFunctions}
 use Rattle.gflow_laws.specs.Splits.{split_output_table, split_input_table}
-use Rattle.gflow_laws.specs.Flow.{is_later, Correction, is_in, set_of, order_of, SameSets, IsFlow}
+use Rattle.gflow_laws.specs.Flow.{is_later, Correction, is_in, set_of, order_of, SameSets, IsFlow, Corrects, odd_in, inside_in}
 use Rattle.gflow_laws.specs.Outputs.{IsNewOutput}
 use Rattle.gflow_laws.proofs.Linear.{masked-members, Distinct-removed, masked-same, member-removed, removed, masked-one, rest_of}
 use Rattle.gflow_laws.proofs.Lists.{is_later-outside, is_in-one, Distinct-append, is_later-append, member-append}
@@ -46,7 +46,7 @@ outside s t new b A grown within = false_from_ne_true (A new) (λ e. true≢fals
 
 -- whoever had an odd number of neighbours in an old set still has
 pub odd-grown : (s t : Seen) (new b : ℕ) (A : ℕ → Bool) (v : ℕ) → Grown s new b t → ((w : ℕ) → A w ≡ true → member w s.ids ≡ true) →
-    member v s.ids ≡ true → odd t A v ≡ odd s A v
+    member v s.ids ≡ true → in_odd_neighbourhood t A v ≡ in_odd_neighbourhood s A v
 odd-grown s t new b A v grown within there =
     masked_front (t.adjacent v) new t.ids A grown.distinct_after (new_there s t new b grown)
     ∙ ap (λ c. xor c (masked (t.adjacent v) (removed new t.ids) A))
@@ -57,7 +57,7 @@ odd-grown s t new b A v grown within there =
     ∙ masked-same (t.adjacent v) (s.adjacent v) s.ids A A (λ w h. ap (λ c. c && A w) (grown.adjacent v w there h))
 
 -- the new vertex has an odd number of neighbours in the sets that have b
-pub odd-of_new : (s t : Seen) (new b : ℕ) (A : ℕ → Bool) → Grown s new b t → odd t A new ≡ A b
+pub odd-of_new : (s t : Seen) (new b : ℕ) (A : ℕ → Bool) → Grown s new b t → in_odd_neighbourhood t A new ≡ A b
 odd-of_new s t new b A grown =
     masked-same (t.adjacent new) A t.ids A (λ w. eqb w b) (λ w _. ap (λ c. c && A w) (grown.of_new w) ∙ and_comm (eqb w b) (A w))
     ∙ masked-one A t.ids b grown.distinct_after (old_there s t new b b grown grown.there)
@@ -73,7 +73,7 @@ Corrects-grown s t before before' new b v A grown there inputs keeps last a = re
   input = λ w e. inputs w (a.members w e) (a.input w e);
   order = λ w e ne. keeps w (a.members w e) (a.order w e ne);
   odd_order = λ w within e ne. ⊎_elim
-      (λ f. subst (λ x. before' v x ≡ true) (sym f) (last (sym (odd-of_new s t new b A grown) ∙ ap (odd t A) (sym f) ∙ e)))
+      (λ f. subst (λ x. before' v x ≡ true) (sym f) (last (sym (odd-of_new s t new b A grown) ∙ ap (in_odd_neighbourhood t A) (sym f) ∙ e)))
       (λ n.
       let old : member w s.ids ≡ true = sym (grown.ids w ∙ ap (λ c. c || member w s.ids) (ne_eqb w new n)) ∙ within in
       keeps w old (a.odd_order w old (sym (odd-grown s t new b A w grown a.members old) ∙ e) ne))

@@ -3,12 +3,11 @@ use Rattle.std.proofs.Common.{◌≡◌, refl, sym, ◌∙◌, ap, ℕ, Bool, tr
 use Rattle.zx_model.specs.Bits.{xor}
 use Rattle.zx_calculus.proofs.Booleans.{parities, xor-false}
 use Rattle.zx_calculus.proofs.Ids.{by_equal}
-use Rattle.gflow_laws.specs.Seen.{Seen, odd}
-use Rattle.gflow_laws.specs.Flow.{Correction, order_of, set_of, is_in, SameSets}
+use Rattle.gflow_laws.specs.Seen.{Seen, in_odd_neighbourhood}
+use Rattle.gflow_laws.specs.Flow.{Correction, order_of, set_of, is_in, SameSets, odd_in}
 use Rattle.gflow_laws.specs.Tables.{symmetric_difference, without_set}
 use Rattle.gflow_laws.specs.Complements.{set_about, set_beside, complement_table}
 use Rattle.gflow_laws.specs.Removals.{removal_table}
-use Rattle.gflow_laws.specs.Correcting.{odd_in}
 use Rattle.gflow_laws.proofs.Lists.{is_in-symmetric_difference, is_in-one}
 use Rattle.gflow_laws.proofs.Complements.{is_in-set_about, is_in-set_beside}
 use Rattle.gflow_laws.specs.Internal.Changes.{AreChanged, complement_change, removal_change}
@@ -50,7 +49,7 @@ complement_done s u t t' c = all_changed (complement_change s u (set_of t u)) se
         by_equal v u
         (λ b e. rw b (ap (λ q. xor (is_in (set_of t q) w) (odd_in (s.plane u) && eqb w u)) e
         ∙ sym (is_in-set_about u (s.plane u) (set_of t u) w)))
-        (λ b n. rw b (in_beside (is_in (set_of t v)) w (odd s (is_in (set_of t v)) u)
+        (λ b n. rw b (in_beside (is_in (set_of t v)) w (in_odd_neighbourhood s (is_in (set_of t v)) u)
         ∙ sym (is_in-set_beside s u own (set_of t v) w)))
 
 -- all sets after u went
@@ -77,14 +76,14 @@ own_toggled s u v own t t' same changes c =
     (λ w. rw (same, changes) (ap (xor (is_in (set_of t v) w)) (sym (is_in-one u w))))
 
 pub beside_toggled : (s : Seen) (u v : ℕ) (own : List ℕ) (t t' : List Correction) → eqb v u ≡ false →
-    odd s (is_in (set_of t v)) u ≡ true → odd_in (s.plane u) ≡ true → IsToggledAt v (is_in own) t t' →
+    in_odd_neighbourhood s (is_in (set_of t v)) u ≡ true → odd_in (s.plane u) ≡ true → IsToggledAt v (is_in own) t t' →
     AreChanged (complement_change s u own) (v ∷ []) t t'
 beside_toggled s u v own t t' other is_odd changes c =
     changed_at (complement_change s u own) v (is_in own) t t' c
     (λ w. rw (other, is_odd, changes) (ap (xor (is_in (set_of t v) w)) (xor-false (is_in own w))))
 
 pub beside_toggled_too : (s : Seen) (u v : ℕ) (own : List ℕ) (t t1 t2 : List Correction) → eqb v u ≡ false →
-    odd s (is_in (set_of t v)) u ≡ true → odd_in (s.plane u) ≡ false → IsToggledAt v (is_in own) t t1 →
+    in_odd_neighbourhood s (is_in (set_of t v)) u ≡ true → odd_in (s.plane u) ≡ false → IsToggledAt v (is_in own) t t1 →
     IsToggledAt v (is_in (u ∷ [])) t1 t2 → AreChanged (complement_change s u own) (v ∷ []) t t2
 beside_toggled_too s u v own t t1 t2 other is_odd stays c d =
     changed_at (complement_change s u own) v (λ w. xor (is_in own w) (is_in (u ∷ []) w)) t t2

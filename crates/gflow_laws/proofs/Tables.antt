@@ -4,8 +4,8 @@ use Rattle.std.proofs.lemmas.Bool.{cases_Bool, cases_eq, true≢false, eqb-true,
 use Rattle.zx_model.specs.Bits.{member}
 use Rattle.zx_calculus.proofs.Booleans.{and-false}
 use Rattle.gflow_laws.specs.Tables.{with_sets, without_set}
-use Rattle.gflow_laws.specs.Flow.{order_of, Correction, set_of, is_in, is_later, SameSets}
-use Rattle.gflow_laws.specs.Correcting.{Corrects, FlowAsFunctions, Distinct}
+use Rattle.gflow_laws.specs.Flow.{order_of, Correction, set_of, is_in, is_later, SameSets, Corrects}
+use Rattle.gflow_laws.specs.Correcting.{FlowAsFunctions, Distinct}
 use Rattle.gflow_laws.specs.Seen.{Seen}
 use Rattle.gflow_laws.proofs.Linear.{removed, member-removed}
 

@@ -3,7 +3,7 @@
 -- tale" (Quantum 5, 421, 2021), where rewrites that preserve the existence of a generalised flow are treated.
 use Rattle.std.specs.Prelude.{ℕ, if◌then◌else◌, ◌==◌, List, [], ◌∷◌}
 use Rattle.zx_calculus.specs.Graph.{Plane, XY, XZ, YZ}
-use Rattle.gflow_laws.specs.Seen.{Seen, odd}
+use Rattle.gflow_laws.specs.Seen.{Seen, in_odd_neighbourhood}
 use Rattle.gflow_laws.specs.Flow.{Correction, set_of, is_in}
 use Rattle.gflow_laws.specs.Tables.{symmetric_difference, with_sets}
 
@@ -17,7 +17,8 @@ set_about u YZ members = members
 -- number of neighbours in it, `own` and u are toggled
 abbrev pub set_beside : Seen → ℕ → List ℕ → List ℕ → List ℕ
 set_beside s u own members =
-    if odd s (is_in members) u then symmetric_difference (symmetric_difference members own) (u ∷ []) else members
+    if in_odd_neighbourhood s (is_in members) u
+    then symmetric_difference (symmetric_difference members own) (u ∷ []) else members
 
 abbrev pub complement_sets : Seen → ℕ → List ℕ → List Correction → List Correction
 complement_sets s u own table =

@@ -1,11 +1,9 @@
--- Flows with sets and orders as functions, for proofs: what it means that a set corrects a vertex, and when two
--- views of graphs agree.
-use Rattle.std.specs.Prelude.{◌≡◌, ◌≢◌, ℕ, Bool, true, false, not, ◌&&◌, List}
+-- Flows with sets and orders as functions, for proofs, and when two views of graphs agree.
+use Rattle.std.specs.Prelude.{◌≡◌, ℕ, Bool, true, false, not, ◌&&◌, List}
 use Rattle.zx_model.specs.Bits.{member}
 pub use Rattle.zx_calculus.specs.Graph.{Distinct}
-use Rattle.zx_calculus.specs.Graph.{Plane, XY, XZ, YZ}
-use Rattle.gflow_laws.specs.Seen.{Seen, odd}
-use Rattle.gflow_laws.specs.Flow.{Correction, order_of, set_of, is_in, is_later}
+use Rattle.gflow_laws.specs.Seen.{Seen}
+use Rattle.gflow_laws.specs.Flow.{Correction, order_of, set_of, is_in, is_later, Corrects}
 
 -- a simple graph
 pub record Simple (s : Seen) : Type 0 where
@@ -18,27 +16,6 @@ pub record Strict (before : ℕ → ℕ → Bool) : Type 0 where
   pub transitive : (u v w : ℕ) → before u v ≡ true → before v w ≡ true → before u w ≡ true
   pub irreflexive : (v : ℕ) → before v v ≡ false
 
--- whether a vertex of this plane is in its correction set
-abbrev pub inside_in : Plane → Bool
-inside_in XY = false
-inside_in XZ = true
-inside_in YZ = true
-
--- whether a vertex of this plane has an odd number of neighbours in its correction set
-abbrev pub odd_in : Plane → Bool
-odd_in XY = true
-odd_in XZ = true
-odd_in YZ = false
-
--- the set meets the conditions of v
-pub record Corrects (s : Seen) (before : ℕ → ℕ → Bool) (v : ℕ) (A : ℕ → Bool) : Type 0 where
-  pub members : (w : ℕ) → A w ≡ true → member w s.ids ≡ true
-  pub input : (w : ℕ) → A w ≡ true → s.input w ≡ false
-  pub order : (w : ℕ) → A w ≡ true → w ≢ v → before v w ≡ true
-  pub odd_order : (w : ℕ) → member w s.ids ≡ true → odd s A w ≡ true → w ≢ v → before v w ≡ true
-  pub inside : A v ≡ inside_in (s.plane v)
-  pub odd_there : odd s A v ≡ odd_in (s.plane v)
-
 -- two views agree on the vertices
 pub record Alike (s t : Seen) : Type 0 where
   pub ids : (v : ℕ) → member v s.ids ≡ member v t.ids
@@ -47,7 +24,7 @@ pub record Alike (s t : Seen) : Type 0 where
   pub input : (v : ℕ) → member v s.ids ≡ true → s.input v ≡ t.input v
   pub output : (v : ℕ) → member v s.ids ≡ true → s.output v ≡ t.output v
 
--- the flow conditions, with the sets as functions
+-- the flow conditions, with the sets as functions: the same as `IsFlowOf`
 pub record FlowAsFunctions (s : Seen) (table : List Correction) : Type 0 where
   pub each_once : Distinct (order_of table)
   pub non_outputs : (v : ℕ) → member v (order_of table) ≡ (member v s.ids && not (s.output v))

@@ -1,7 +1,7 @@
 -- Tables for the worked graphs, on which the definitions are tried.
 use Rattle.std.specs.Prelude.{◌≡◌, ℕ, Bool, if◌then◌else◌, List, [], ◌∷◌, ◌++◌}
-use Rattle.zx_calculus.specs.Graph.{Plane, XY, Edge, Graph}
-use Rattle.zx_calculus.specs.Worked.{vertex, edge, plain, graph}
+use Rattle.zx_calculus.specs.Graph.{Plane, XY, Edge, Graph, plain}
+use Rattle.zx_calculus.specs.Worked.{vertex, edge, graph}
 use Rattle.gflow_laws.specs.Seen.{Seen, seen}
 use Rattle.gflow_laws.specs.Flow.{Correction, order_of, set_of, input_holds, order_holds, odd_holds, plane_holds}
 use Rattle.gflow_laws.specs.Flow.{IsTableOf}

@@ -3,11 +3,11 @@
 -- computation" (New J. Phys. 9, 250, 2007); for three planes Backens, Miller-Bakewell, de Felice, Lobski and van
 -- de Wetering, "There and back again: a circuit extraction tale" (Quantum 5, 421, 2021). There the
 -- order is partial; here it is a list, in which the vertices stand by that order.
-use Rattle.std.specs.Prelude.{◌≡◌, ℕ, Bool, true, false, if◌then◌else◌, not, ◌&&◌, ◌||◌, ◌==◌, List, [], ◌∷◌}
+use Rattle.std.specs.Prelude.{◌≡◌, ℕ, Bool, true, false, if◌then◌else◌, not, ◌&&◌, ◌||◌, ◌==◌, List, [], ◌∷◌, ◌≢◌}
 use Rattle.std.specs.List.{list_all}
 use Rattle.zx_model.specs.Bits.{member}
 use Rattle.zx_calculus.specs.Graph.{Plane, XY, XZ, YZ, Graph, in_order, different}
-use Rattle.gflow_laws.specs.Seen.{Seen, seen, odd}
+use Rattle.gflow_laws.specs.Seen.{Seen, seen, in_odd_neighbourhood}
 
 -- a vertex with its correction set
 pub record Correction : Type 0 where
@@ -44,19 +44,20 @@ order_holds order v members = list_all (λ w. (w == v) || is_later order v w) me
 
 -- each vertex with an odd number of neighbours in the set, other than v, comes after v
 abbrev pub odd_holds : Seen → List ℕ → ℕ → List ℕ → Bool
-odd_holds s order v members = list_all (λ w. not (odd s (is_in members) w) || ((w == v) || is_later order v w)) s.ids
+odd_holds s order v members =
+    list_all (λ w. not (in_odd_neighbourhood s (is_in members) w) || ((w == v) || is_later order v w)) s.ids
 
 -- v isn't in the set, and has an odd number of neighbours in it
 abbrev pub XY_holds : Seen → ℕ → List ℕ → Bool
-XY_holds s v members = not (is_in members v) && odd s (is_in members) v
+XY_holds s v members = not (is_in members v) && in_odd_neighbourhood s (is_in members) v
 
 -- v is in the set, and has an odd number of neighbours in it
 abbrev pub XZ_holds : Seen → ℕ → List ℕ → Bool
-XZ_holds s v members = is_in members v && odd s (is_in members) v
+XZ_holds s v members = is_in members v && in_odd_neighbourhood s (is_in members) v
 
 -- v is in the set, and has an even number of neighbours in it
 abbrev pub YZ_holds : Seen → ℕ → List ℕ → Bool
-YZ_holds s v members = is_in members v && not (odd s (is_in members) v)
+YZ_holds s v members = is_in members v && not (in_odd_neighbourhood s (is_in members) v)
 
 -- the condition of the plane of v
 abbrev pub plane_holds : Seen → Plane → ℕ → List ℕ → Bool
@@ -87,3 +88,25 @@ IsFlow g table = IsFlowOf (seen g) table
 pub record SameSets (table other : List Correction) : Type 0 where
   pub order : order_of table ≡ order_of other
   pub members : (v w : ℕ) → is_in (set_of table v) w ≡ is_in (set_of other v) w
+
+-- whether a vertex of this plane is in its correction set
+abbrev pub inside_in : Plane → Bool
+inside_in XY = false
+inside_in XZ = true
+inside_in YZ = true
+
+-- whether a vertex of this plane has an odd number of neighbours in its correction set
+abbrev pub odd_in : Plane → Bool
+odd_in XY = true
+odd_in XZ = true
+odd_in YZ = false
+
+-- The set meets the conditions of v, both as functions: with the order and the sets of a table these are the four
+-- conditions of `IsFlowOf`.
+pub record Corrects (s : Seen) (before : ℕ → ℕ → Bool) (v : ℕ) (A : ℕ → Bool) : Type 0 where
+  pub members : (w : ℕ) → A w ≡ true → member w s.ids ≡ true
+  pub input : (w : ℕ) → A w ≡ true → s.input w ≡ false
+  pub order : (w : ℕ) → A w ≡ true → w ≢ v → before v w ≡ true
+  pub odd_order : (w : ℕ) → member w s.ids ≡ true → in_odd_neighbourhood s A w ≡ true → w ≢ v → before v w ≡ true
+  pub inside : A v ≡ inside_in (s.plane v)
+  pub odd_there : in_odd_neighbourhood s A v ≡ odd_in (s.plane v)

@@ -23,8 +23,8 @@ seen g = record {
 }
 
 -- Odd(A): whether v has an odd number of neighbours in the set
-abbrev pub odd : Seen → (ℕ → Bool) → ℕ → Bool
-odd s set v = masked (s.adjacent v) s.ids set
+abbrev pub in_odd_neighbourhood : Seen → (ℕ → Bool) → ℕ → Bool
+in_odd_neighbourhood s set v = masked (s.adjacent v) s.ids set
 
 -- the plane of a vertex after a local complement about it
 abbrev pub complemented_plane : Plane → Plane

@@ -4,7 +4,7 @@ ghost use Rattle.std.specs.Prelude.{◌≡◌, ℕ, true, false, List, [], ◌�
 ghost use Rattle.zx_calculus.specs.Graph.{XY, XZ, YZ, Graph};
 ghost use Rattle.zx_calculus.specs.Steps.{LocalComplement, Delete, Pivot, DropLone, FuseInto, FuseTwin, SplitInput, SplitOutput, after};
 ghost use Rattle.zx_calculus.specs.Worked.{path_of_three, path_complemented, path_deleted, path_of_four, path_pivoted, twins, twins_reduced, small_gadgets, small_gadgets_reduced};
-ghost use Rattle.gflow_laws.specs.Seen.{seen, odd};
+ghost use Rattle.gflow_laws.specs.Seen.{seen, in_odd_neighbourhood};
 ghost use Rattle.gflow_laws.specs.Flow.{Correction, is_in, IsFlowOf, IsFlow, input_holds, order_holds, odd_holds, XY_holds};
 ghost use Rattle.gflow_laws.specs.Splits.{split_input_table, split_output_table};
 ghost use Rattle.gflow_laws.specs.Steps.{table_after};
@@ -122,5 +122,5 @@ pub fn outputs_of_another_kind()
 
     // With an edge between outputs another than the last vertex has an odd number of neighbours in its set.
     ensures adjacent { IsFlow adjacent_outputs first_by_second }
-    ensures odd { odd (seen adjacent_outputs) (is_in (1 ∷ [])) 2 ≡ true }
+    ensures odd { in_odd_neighbourhood (seen adjacent_outputs) (is_in (1 ∷ [])) 2 ≡ true }
 {}

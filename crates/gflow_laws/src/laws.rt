@@ -2,19 +2,19 @@
 
 ghost use Rattle.std.specs.Prelude.{◌≡◌, ◌↔◌, ◌&&◌, ℕ, Bool, true, false, ◌==◌, List};
 ghost use Rattle.zx_model.specs.Bits.{xor, member};
-ghost use Rattle.zx_calculus.specs.Graph.{XY, Graph, ids, plane_of, joined, end_vertices, Live, WellFormed};
+ghost use Rattle.zx_calculus.specs.Graph.{XY, Graph, ids, plane_of, joined, end_vertices, IsVertex, WellFormed};
 ghost use Rattle.zx_calculus.specs.Complements.{IsLocalComplement};
 ghost use Rattle.zx_calculus.specs.Deletions.{IsDelete};
 ghost use Rattle.zx_calculus.specs.Pivots.{IsPivot};
 ghost use Rattle.zx_calculus.specs.Splits.{IsSplitInput, IsSplitOutput};
 ghost use Rattle.zx_calculus.specs.Gadgets.{IsDropLone, IsFuseInto, IsFuseTwin};
 ghost use Rattle.zx_calculus.specs.Steps.{Step, IsStep, IsRun};
-ghost use Rattle.gflow_laws.specs.Seen.{Seen, seen, odd, complemented};
-ghost use Rattle.gflow_laws.specs.Flow.{Correction, is_in, IsFlowOf, IsFlow, SameSets};
+ghost use Rattle.gflow_laws.specs.Seen.{Seen, seen, in_odd_neighbourhood, complemented};
+ghost use Rattle.gflow_laws.specs.Flow.{Correction, is_in, IsFlowOf, IsFlow, SameSets, Corrects};
 ghost use Rattle.gflow_laws.specs.Kept.{IsKept};
 ghost use Rattle.gflow_laws.specs.Tables.{symmetric_difference};
 ghost use Rattle.gflow_laws.specs.Steps.{table_after, complement_table, pivot_table, removal_table, split_input_table, split_output_table};
-ghost use Rattle.gflow_laws.specs.Correcting.{Distinct, Simple, Strict, Corrects, Alike, FlowAsFunctions};
+ghost use Rattle.gflow_laws.specs.Correcting.{Distinct, Simple, Strict, Alike, FlowAsFunctions};
 
 /// Each rewrite turns a flow of the old graph into a flow of the new one.
 pub fn each_rewrite_keeps_a_flow()
@@ -65,10 +65,10 @@ pub fn parts_of_the_tables()
 /// An XY vertex without an output has a neighbour, in a graph with a flow.
 pub fn an_inner_vertex_has_a_neighbour()
     ensures neighbour { (g : Graph) (table : List Correction) (v : ℕ) →
-        IsFlow g table → Live g v → member v (end_vertices g.outputs) ≡ false → plane_of g v ≡ XY →
-        (w : ℕ) × (Live g w) × (joined g.edges v w ≡ true) }
+        IsFlow g table → IsVertex g v → member v (end_vertices g.outputs) ≡ false → plane_of g v ≡ XY →
+        (w : ℕ) × (IsVertex g w) × (joined g.edges v w ≡ true) }
     ensures alone { (g : Graph) (table : List Correction) (v : ℕ) →
-        Live g v → member v (end_vertices g.outputs) ≡ false → plane_of g v ≡ XY →
+        IsVertex g v → member v (end_vertices g.outputs) ≡ false → plane_of g v ≡ XY →
         ((w : ℕ) → joined g.edges v w ≡ false) → IsFlow g table → ⊥ }
 {}
 
@@ -95,7 +95,8 @@ pub fn sets_correct_their_vertices()
 
     // The parity of neighbours in a set is linear in the set.
     ensures linear { (s : Seen) (A B : ℕ → Bool) (v : ℕ) →
-        odd s (λ w. xor (A w) (B w)) v ≡ xor (odd s A v) (odd s B v) }
+        in_odd_neighbourhood s (λ w. xor (A w) (B w)) v
+        ≡ xor (in_odd_neighbourhood s A v) (in_odd_neighbourhood s B v) }
 
     // The set of a later vertex can be absorbed.
     ensures absorption { (s : Seen) (before : ℕ → ℕ → Bool) (v u : ℕ) (A B : ℕ → Bool) →
@@ -106,7 +107,7 @@ pub fn sets_correct_their_vertices()
     // in the set.
     ensures complement { (s : Seen) (before : ℕ → ℕ → Bool) (u v : ℕ) (A : ℕ → Bool) →
         Simple s → member u s.ids ≡ true → s.input u ≡ false → member v s.ids ≡ true → Corrects s before v A →
-        Corrects (complemented s u) before v (λ w. xor (A w) (odd s A u && (w == u))) }
+        Corrects (complemented s u) before v (λ w. xor (A w) (in_odd_neighbourhood s A u && (w == u))) }
 
     // A set serves in each view that agrees on the vertices, and in each order that keeps what comes later.
     ensures transport { (s t : Seen) (before later : ℕ → ℕ → Bool) (v : ℕ) (A B : ℕ → Bool) →

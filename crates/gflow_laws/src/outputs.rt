@@ -2,8 +2,8 @@
 
 ghost use Rattle.std.specs.Prelude.{◌≡◌, ◌≢◌, ◌≤◌, ◌&&◌, ◌==◌, ℕ, true, false, not, List, [], ◌∷◌, ◌++◌, length};
 ghost use Rattle.zx_model.specs.Bits.{xor, member};
-ghost use Rattle.zx_calculus.specs.Graph.{XY, YZ, Graph, joined, plane_of, end_vertices, Distinct, Live, WellFormed};
-ghost use Rattle.gflow_laws.specs.Seen.{Seen, seen, odd};
+ghost use Rattle.zx_calculus.specs.Graph.{XY, YZ, Graph, joined, plane_of, end_vertices, Distinct, IsVertex, WellFormed};
+ghost use Rattle.gflow_laws.specs.Seen.{Seen, seen, in_odd_neighbourhood};
 ghost use Rattle.gflow_laws.specs.Flow.{Correction, is_in, order_of, IsFlow};
 ghost use Rattle.gflow_laws.specs.Removals.{removal_table};
 ghost use Rattle.gflow_laws.specs.Splits.{split_output_table};
@@ -41,12 +41,12 @@ pub fn last_vertex()
         is_in e.members w ≡ true → w ≢ e.vertex → (s.output w ≡ true) × (s.input w ≡ false) }
     ensures XY { (s : Seen) (pre : List Correction) (e : Correction) → IsLast s pre e →
         s.plane e.vertex ≡ XY → (w : ℕ) → member w s.ids ≡ true →
-        odd s (is_in e.members) w ≡ (w == e.vertex) }
+        in_odd_neighbourhood s (is_in e.members) w ≡ (w == e.vertex) }
     ensures YZ { (s : Seen) (pre : List Correction) (e : Correction) → IsLast s pre e →
         s.plane e.vertex ≡ YZ → (w : ℕ) → member w s.ids ≡ true →
-        odd s (others e) w ≡ (s.adjacent e.vertex w && not (s.output w)) }
+        in_odd_neighbourhood s (others e) w ≡ (s.adjacent e.vertex w && not (s.output w)) }
     ensures YZ_itself { (s : Seen) (pre : List Correction) (e : Correction) → IsLast s pre e →
-        s.plane e.vertex ≡ YZ → odd s (others e) e.vertex ≡ false }
+        s.plane e.vertex ≡ YZ → in_odd_neighbourhood s (others e) e.vertex ≡ false }
     ensures graph { (g : Graph) (pre : List Correction) (e : Correction) → WellFormed g →
         IsFlow g (pre ++ e ∷ []) → ((p q : ℕ) → member p (end_vertices g.outputs) ≡ true →
         member q (end_vertices g.outputs) ≡ true → joined g.edges p q ≡ false) → IsLast (seen g) pre e }
@@ -87,7 +87,7 @@ pub fn removed_vertex()
         s.plane u ≢ XY → s.output u ≡ false → FlowAsFunctions s table →
         FlowAsFunctions (without_vertex s u) (removal_table u table) }
     ensures graph { (g : Graph) (u : ℕ) (h : Graph) (table : List Correction) → WellFormed g →
-        WellFormed h → Live g u → plane_of g u ≢ XY → Alike (without_vertex (seen g) u) (seen h) →
+        WellFormed h → IsVertex g u → plane_of g u ≢ XY → Alike (without_vertex (seen g) u) (seen h) →
         IsFlow g table → IsFlow h (removal_table u table) }
     ensures last { (pre : List Correction) (e : Correction) → Distinct (order_of (pre ++ e ∷ [])) →
         removal_table e.vertex (pre ++ e ∷ []) ≡ last_removed_table e pre }
@@ -105,6 +105,6 @@ pub fn all_inputs()
     ensures same_members { (xs ys : List ℕ) → Distinct xs → length ys ≤ length xs →
         ((w : ℕ) → member w xs ≡ true → member w ys ≡ true) → (w : ℕ) → member w xs ≡ member w ys }
     ensures all_ends { (g : Graph) → WellFormed g → IsFlow g [] →
-        length g.inputs ≡ length g.outputs → (v : ℕ) → Live g v →
+        length g.inputs ≡ length g.outputs → (v : ℕ) → IsVertex g v →
         (member v (end_vertices g.inputs) ≡ true) × (member v (end_vertices g.outputs) ≡ true) }
 {}

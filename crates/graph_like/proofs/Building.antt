@@ -5,7 +5,7 @@ use Rattle.std.proofs.lemmas.List.{length-map, map-append}
 use Rattle.std.proofs.Math.Seq.{drop-cons}
 use Rattle.zx_model.specs.Bits.{xor, member}
 use Rattle.zx_model.proofs.BitLemmas.{xor-false}
-use Rattle.zx_calculus.specs.Graph.{XY, Vertex, Graph, ids, kind_of, joined, in_order, Live, insert_vertex, WellFormed}
+use Rattle.zx_calculus.specs.Graph.{XY, Vertex, Graph, ids, kind_of, joined, in_order, IsVertex, insert_vertex, WellFormed}
 use Rattle.zx_calculus.specs.Edits.{is_pair}
 use Rattle.zx_calculus.specs.Splits.{least_free}
 use Rattle.zx_calculus.specs.Worked.{vertex}
@@ -22,7 +22,7 @@ use Rattle.graph_like.proofs.Homing.{numbers_from-more, absent-below}
 use Rattle.graph_like.proofs.LikeSum.{rising-numbers_from, ids-append}
 
 -- vertices that are numbered
-pub numbered_live : (g : Graph) (p : ℕ) → IsNumbered g → p < length g.vertices → Live g p
+pub numbered_live : (g : Graph) (p : ℕ) → IsNumbered g → p < length g.vertices → IsVertex g p
 numbered_live g p n low = ap (member p) n.ids ∙ member-numbers_from p 0 (length g.vertices) (omega arith) (omega arith)
 
 pub numbered_least : (g : Graph) → IsNumbered g → least_free (ids g.vertices) ≡ length g.vertices

@@ -12,7 +12,7 @@ use Rattle.zx_calculus.proofs.Ids.{by_test, by_equal, Distinct, member-filter, e
 use Rattle.zx_diagram.specs.declared.spider.Spider.{Spider}
 use Rattle.zx_diagram.specs.declared.wire.Wire.{Wire}
 use Rattle.zx_diagram.specs.Diagram.{Diagram, IsDiagram, IsEdgeOf, numbers, numbers_from}
-use Rattle.zx_diagram.specs.Sum.{edge_mark, wire_product, term, sum}
+use Rattle.zx_diagram.specs.Sum.{edge_mark, wire_product, term, diagram_sum}
 use Rattle.graph_like.specs.Classes.{AreFused, NamesClasses}
 use Rattle.graph_like.specs.LikeForm.{leaders}
 use Rattle.graph_like.proofs.Summing.{sum_over-parted, sum_out_agreeing, agrees, guarded}
@@ -175,7 +175,7 @@ pointwise d least x y label w c = by (same_or_zero d.spiders d.edges label)
 
 -- the sum over one label for each class
 pub fused_sum : (d : Diagram) (least : ℕ → ℕ) (x y : List Bool) → IsDiagram d → NamesClasses d least →
-    sum d x y ≡ sum_over (leaders d least) (λ label. term d x y (λ u. label (least u)))
+    diagram_sum d x y ≡ sum_over (leaders d least) (λ label. term d x y (λ u. label (least u)))
 fused_sum d least x y w c =
     ap (λ n. total (map (λ hs. term d x y (label_of (numbers d) hs)) (all_labels n))) (sym (length-numbers_from 0 (length d.spiders)))
     ∙ all_lists (numbers d) (term d x y)

@@ -11,7 +11,7 @@ use Rattle.zx_model.proofs.Domain.{mul-nonzero}
 use Rattle.zx_model.proofs.SumLemmas.{all_lists, sum_over_same, labelled-other}
 use Rattle.zx_calculus.specs.Graph.{Vertex, End, Graph, ids, joined, end_vertices, in_order}
 use Rattle.zx_calculus.specs.Sum as graph
-use Rattle.zx_calculus.specs.Sum.{vertex_product, edge_product, end_product}
+use Rattle.zx_calculus.specs.Sum.{vertex_product, edge_product, end_product, graph_sum}
 use Rattle.zx_calculus.specs.Parity.{masked}
 use Rattle.zx_calculus.specs.Internal.Pairs.{quad}
 use Rattle.zx_calculus.specs.Adjacency.{edges_of}
@@ -27,7 +27,7 @@ use Rattle.zx_diagram.specs.declared.spider.Spider.{Spider}
 use Rattle.zx_diagram.specs.declared.wire.Wire.{Wire}
 use Rattle.zx_diagram.specs.declared.wire.Leg.{Leg}
 use Rattle.zx_diagram.specs.Diagram.{Diagram, IsDiagram, IsEdgeOf, numbers_from}
-use Rattle.zx_diagram.specs.Sum.{edge_mark, term, sum}
+use Rattle.zx_diagram.specs.Sum.{edge_mark, term, diagram_sum}
 use Rattle.graph_like.specs.Classes.{NamesClasses}
 use Rattle.graph_like.specs.LikeForm.{leaders, home_in, class_vertex, joined_oddly, ends_at, placed_in, hangs, inputs_at, outputs_at, surplus, all_surplus, adjacent, like_graph, IsLikeForm}
 use Rattle.graph_like.proofs.Summing.{sum_over-swapped}
@@ -227,8 +227,8 @@ edge_product-like d home count m label =
     symmetric p q = ap₂ xor (joined_oddly_comm d.spiders home d.edges p q) (hangs_comm count (all_surplus d home) p q)
 
 -- the sum of the graph over its vertices
-graph_sum : (g : Graph) (x y : List Bool) → graph.sum g x y ≡ sum_over (ids g.vertices) (graph.term g x y)
-graph_sum g x y =
+graph_sum_over : (g : Graph) (x y : List Bool) → graph_sum g x y ≡ sum_over (ids g.vertices) (graph.term g x y)
+graph_sum_over g x y =
     ap (λ n. total (map (λ hs. graph.term g x y (label_of (ids g.vertices) hs)) (all_labels n))) (sym (length-ids g.vertices))
     ∙ all_lists (ids g.vertices) (graph.term g x y)
 
@@ -238,10 +238,10 @@ absent_of c w vs below far =
 
 pub like_sum : (d : Diagram) (least : ℕ → ℕ) (x y : List Bool) → IsDiagram d → NamesClasses d least →
     length x ≡ length d.inputs → length y ≡ length d.outputs →
-    graph.sum (like_graph d (home_in d least) (length (leaders d least))) x y
-    ≡ mul (mul (surplus_scale [] (inputs_at d (home_in d least))) (surplus_scale [] (outputs_at d (home_in d least)))) (sum d x y)
+    graph_sum (like_graph d (home_in d least) (length (leaders d least))) x y
+    ≡ mul (mul (surplus_scale [] (inputs_at d (home_in d least))) (surplus_scale [] (outputs_at d (home_in d least)))) (diagram_sum d x y)
 like_sum d least x y is c long_x long_y =
-    graph_sum g x y
+    graph_sum_over g x y
     ∙ ap (λ l. sum_over l (graph.term g x y)) (ids_are ∙ ap (λ l. ps ++ l) new_ids)
     ∙ sum_over-swapped ps (new_inputs ++ new_outputs) (graph.term g x y)
     ∙ ap (λ l. sum_over l (graph.term g x y)) (append_assoc new_inputs new_outputs ps)
@@ -349,7 +349,7 @@ like_sum d least x y is c long_x long_y =
     in_all : (u : ℕ) → u < length d.spiders → member (home u) (numbers_from 0 m) ≡ true
     in_all u low = let there : home u < count = within u low in member-numbers_from (home u) 0 m (omega arith) (omega arith)
 
-    classes_are : sum_over ps (λ label. mul (end_product outs y label) (past_outputs label)) ≡ sum d x y
+    classes_are : sum_over ps (λ label. mul (end_product outs y label) (past_outputs label)) ≡ diagram_sum d x y
     classes_are =
         sum_over_same ps _ (λ label. term d x y (λ u. label (home u)))
         (λ label. outputs_in _ _ _ _
@@ -358,7 +358,7 @@ like_sum d least x y is c long_x long_y =
         ∙ sym (fused_sum d least x y is c)
 
 pub like_proportional : (d : Diagram) (g : Graph) → IsDiagram d → IsLikeForm d g →
-    Proportional (length d.inputs) (length d.outputs) (sum d) (graph.sum g)
+    Proportional (length d.inputs) (length d.outputs) (diagram_sum d) (graph_sum g)
 like_proportional d g is like = record {
   left = mul (surplus_scale [] (inputs_at d (home_in d like.least))) (surplus_scale [] (outputs_at d (home_in d like.least)));
   right = one;
@@ -367,6 +367,6 @@ like_proportional d g is like = record {
   right_nonzero = one_nonzero;
   equal = λ x y long_x long_y.
       sym (like_sum d like.least x y is like.classes long_x long_y)
-      ∙ ap (λ h. graph.sum h x y) (sym like.graph)
+      ∙ ap (λ h. graph_sum h x y) (sym like.graph)
       ∙ sym (one-mul _);
 }

@@ -3,7 +3,7 @@
 ghost use Rattle.std.specs.Prelude.{◌≡◌, ◌<◌, ◌≤◌, ◌++◌, [], ◌∷◌, false, not, length, IfOk, OnOk};
 ghost use Rattle.std.specs.List.{All};
 ghost use Rattle.zx_model.specs.Bits.{member};
-ghost use Rattle.zx_calculus.specs.Graph.{Live, end_vertices};
+ghost use Rattle.zx_calculus.specs.Graph.{IsVertex, end_vertices};
 ghost use Rattle.graph_like.specs.LikeForm.{ends_at};
 ghost use Rattle.graph_like.specs.Internal.Homes.{home_of, AreHomesOf};
 ghost use Rattle.graph_like.specs.Internal.Building.{IsNumbered, AddsEnds, HangsOn, ends_of, with_ends};
@@ -90,7 +90,7 @@ fn split_off(graph: &mut OpenGraph, v: VertexId, hadamard: bool) -> Result<End, 
 
 // Whether a vertex has an end of a side.
 fn has_end(graph: &OpenGraph, side: Side, v: VertexId) -> bool
-    requires { Live graph.now.graph v }
+    requires { IsVertex graph.now.graph v }
     ensures { result ≡ member v (end_vertices (ends_of side graph.now.graph)) }
 {
     match side {

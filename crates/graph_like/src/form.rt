@@ -2,8 +2,8 @@
 
 ghost use Rattle.std.specs.Prelude.{length, IfOk};
 ghost use Rattle.zx_model.specs.Proportional.{Proportional};
-ghost use Rattle.zx_calculus.specs.Sum as graph;
-ghost use Rattle.zx_diagram.specs.Sum.{sum};
+ghost use Rattle.zx_calculus.specs.Sum.{graph_sum};
+ghost use Rattle.zx_diagram.specs.Sum.{diagram_sum};
 ghost use Rattle.graph_like.specs.LikeForm.{IsLikeForm};
 ghost use Rattle.graph_like.specs.Internal.Homes.{AreClassHomes, AreHomesOf};
 
@@ -24,7 +24,7 @@ use zx_diagram::Diagram;
 pub fn graph_like(alloc: Global, d: Diagram) -> Result<OpenGraph, AllocError>
     ensures form { IfOk result (λ made. IsLikeForm d made.graph) }
     ensures map { IfOk result
-        (λ made. Proportional (length d.inputs) (length d.outputs) (sum d) (graph.sum made.graph)) }
+        (λ made. Proportional (length d.inputs) (length d.outputs) (diagram_sum d) (graph_sum made.graph)) }
 {
     let homes = class_homes(alloc, &d)?;
     let phases = class_phases(alloc, &d, &homes)?;

@@ -4,7 +4,7 @@ use Rattle.std.specs.Prelude.{pos}
 use Rattle.zx_model.specs.Phase.{half_turn}
 use Rattle.zx_model.specs.Scalar.{product_of_scalars}
 use Rattle.zx_model.specs.Bits.{xor, member}
-use Rattle.zx_calculus.specs.Graph.{Plane, Kind, Vertex, Graph, kind_of, joined, neighbours, end_vertices, plane_of, phase_of, with_kinds, Live, Interior, WellFormed}
+use Rattle.zx_calculus.specs.Graph.{Plane, Kind, Vertex, Graph, kind_of, joined, neighbours, end_vertices, plane_of, phase_of, with_kinds, IsVertex, Interior, WellFormed}
 use Rattle.zx_calculus.specs.Complements.{IsLocalComplement, complement_kind, complement_scalar_in, complement_scalar}
 use Rattle.zx_calculus.specs.Deletions.{IsDelete, delete_kind, delete_scalar_in, delete_scalar}
 use Rattle.zx_calculus.specs.Scalars.{root_of_two_to, turn_by, quarter_power, quarter_powers, half_powers, sum_of_powers}
@@ -22,7 +22,7 @@ use Rattle.zx_calculus.proofs.Allowed.{delete_live}
 use Rattle.zx_calculus.proofs.Steps.{after_step}
 
 -- edges, then the neighbours, then the vertex itself
-pub complement_step : (g h : Graph) (u : ℕ) → WellFormed g → Live g u → Interior g u →
+pub complement_step : (g h : Graph) (u : ℕ) → WellFormed g → IsVertex g u → Interior g u →
     IsToggled g (among (neighbours g u)) h →
     IsLocalComplement g u (with_changed (at_vertex u complemented)
     (with_changed (changed_in (neighbours g u) quarter_turned) h))
@@ -50,7 +50,7 @@ complement_step g h u w there interior c = record {
         (t, apart) refl)
         (λ f n. rw f refl)
 
-pub complement_all : (g h k l : Graph) (u : ℕ) → WellFormed g → WellFormed h → Live g u → Interior g u →
+pub complement_all : (g h k l : Graph) (u : ℕ) → WellFormed g → WellFormed h → IsVertex g u → Interior g u →
     IsToggled g (among (neighbours g u)) h → k ≡ with_changed (changed_in (neighbours h u) quarter_turned) h →
     l ≡ with_changed (at_vertex u complemented) k → IsLocalComplement g u l
 complement_all g h k l u wg wh there interior c turned own =
@@ -107,7 +107,7 @@ scalar_of_no_turn g u other =
 -- a vertex that is to be deleted stays one without ends while its half turn is passed on
 module _ (g h : Graph) (u : ℕ) where
   pub deletable_live : h ≡ with_changed (delete_kind (phase_of g u) (joined g.edges u)) g →
-      allowed g (Delete u) ≡ true → Live h u
+      allowed g (Delete u) ≡ true → IsVertex h u
   deletable_live e may = turned_live (delete_kind (phase_of g u) (joined g.edges u)) g h u e (delete_live g u may)
 
   pub deletable_interior : WellFormed g → h ≡ with_changed (delete_kind (phase_of g u) (joined g.edges u)) g →

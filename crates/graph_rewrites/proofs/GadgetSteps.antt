@@ -2,7 +2,7 @@
 use Rattle.std.proofs.Common.{◌≡◌, ◌≢◌, refl, sym, ◌∙◌, ap, ap₂, subst, ℕ, true, eqb-true, true≢false, Option, Some, None, arith}
 use Rattle.std.specs.Prelude.{is_some}
 use Rattle.zx_model.specs.Bits.{member}
-use Rattle.zx_calculus.specs.Graph.{YZ, Graph, is_XY, ids, joined, plane_of, phase_of, with_kinds, without, Live, Interior, WellFormed}
+use Rattle.zx_calculus.specs.Graph.{YZ, Graph, is_XY, ids, joined, plane_of, phase_of, with_kinds, without, IsVertex, Interior, WellFormed}
 use Rattle.zx_calculus.specs.Steps.{allowed, after, DropLone, FuseInto, FuseTwin}
 use Rattle.zx_calculus.specs.Edits.{IsRemoval}
 use Rattle.zx_calculus.specs.Gadgets.{IsDropLone, IsFuseInto, IsFuseTwin, fuse_kind}
@@ -32,7 +32,7 @@ drop_step {g} {h} {u} w may c =
     }
 
 -- another vertex stays one
-pub still_live : (g h : Graph) (u p : ℕ) → IsRemoval g u h → p ≢ u → Live g p → Live h p
+pub still_live : (g h : Graph) (u p : ℕ) → IsRemoval g u h → p ≢ u → IsVertex g p → IsVertex h p
 still_live g h u p c other there =
     ap (λ vs. member p (ids vs)) c.vertices ∙ ap (member p) (ids-without u g.vertices)
     ∙ member-removed_other p u (ids g.vertices) other ∙ there
@@ -49,7 +49,7 @@ pub found_leg : (g : Graph) (u into : ℕ) (leg : Option ℕ) → leg ≡ Some i
     joined g.edges u into ≡ true
 found_leg g u into leg is first = (rw is at first).1
 
-pub leg_live : (g : Graph) (u into : ℕ) → WellFormed g → joined g.edges u into ≡ true → Live g into
+pub leg_live : (g : Graph) (u into : ℕ) → WellFormed g → joined g.edges u into ≡ true → IsVertex g into
 leg_live g u into w near = neighbour_live g u into (member-neighbours g u into w ∙ near)
 
 pub leg_apart : (g : Graph) (u into : ℕ) → WellFormed g → joined g.edges u into ≡ true → into ≢ u
@@ -84,7 +84,7 @@ pub twins_apart : (g : Graph) (u v : ℕ) → WellFormed g → allowed g (FuseTw
 twins_apart g u v w may =
     let s : IsFuseTwin g u v (after (FuseTwin u v) g) = after_step g (FuseTwin u v) w may in s.different
 
-pub first_live : (g : Graph) (u v : ℕ) → WellFormed g → allowed g (FuseTwin u v) ≡ true → Live g u
+pub first_live : (g : Graph) (u v : ℕ) → WellFormed g → allowed g (FuseTwin u v) ≡ true → IsVertex g u
 first_live g u v w may =
     let s : IsFuseTwin g u v (after (FuseTwin u v) g) = after_step g (FuseTwin u v) w may in s.there
 

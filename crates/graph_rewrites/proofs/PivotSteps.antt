@@ -1,7 +1,7 @@
 -- What the changes of a graph, one after the other, make of it: a pivot.
 use Rattle.std.proofs.Common.{◌≡◌, ◌≢◌, refl, sym, ◌∙◌, ap, ℕ, true, false, cond, ◌&&◌, eqb, ne_eqb, true≢false}
 use Rattle.zx_model.specs.Bits.{member}
-use Rattle.zx_calculus.specs.Graph.{Kind, Graph, ids, joined, neighbours, with_kinds, Live, WellFormed}
+use Rattle.zx_calculus.specs.Graph.{Kind, Graph, ids, joined, neighbours, with_kinds, IsVertex, WellFormed}
 use Rattle.zx_calculus.specs.Pivots.{IsPivot, pivot_kind}
 use Rattle.zx_calculus.specs.Steps.{allowed, Pivot}
 use Rattle.zx_calculus.specs.Edits.{at_vertex}
@@ -25,7 +25,7 @@ module _ (g k : Graph) (u v : ℕ) (w : WellFormed g) (may : allowed g (Pivot u 
   abbrev halves : ℕ → Kind → Kind
   halves = half_turned_in (neighbours g u) (joined g.edges v)
 
-  pub rewired_live : (x : ℕ) → Live g x → Live k x
+  pub rewired_live : (x : ℕ) → IsVertex g x → IsVertex k x
   rewired_live x there = ap (λ vs. member x (ids vs)) c.vertices ∙ turned_live halves g (with_changed halves g) x refl there
 
   apart : u ≢ v

@@ -2,7 +2,7 @@
 use Rattle.std.proofs.Common.{◌≡◌, ◌≢◌, sym, ◌∙◌, ap, ap₂, ℕ, Bool, true, false, ◌&&◌, ◌||◌, eqb, List, ◌∷◌, ne_eqb}
 use Rattle.zx_model.specs.Bits.{xor, member}
 use Rattle.zx_bits.specs.Sets.{IsBelow}
-use Rattle.zx_calculus.specs.Graph.{Kind, Graph, ids, joined, neighbours, Live, WellFormed}
+use Rattle.zx_calculus.specs.Graph.{Kind, Graph, ids, joined, neighbours, IsVertex, WellFormed}
 use Rattle.zx_calculus.specs.Toggles.{IsToggled}
 use Rattle.zx_calculus.specs.Internal.ChangedKinds.{with_changed}
 use Rattle.zx_calculus.proofs.Vertices.{ids-with_kinds}
@@ -30,7 +30,7 @@ closed_tells g u w p =
     ap₂ (λ a b. a || b) t absent ∙ sym (ap₂ xor absent t))
     (λ f n. rw f (sym (xor-false (joined g.edges u p))))
 
-pub closed_below : (g : Graph) (u reach : ℕ) → Live g u → IsBelow reach (ids g.vertices) → IsBelow reach (u ∷ neighbours g u)
+pub closed_below : (g : Graph) (u reach : ℕ) → IsVertex g u → IsBelow reach (ids g.vertices) → IsBelow reach (u ∷ neighbours g u)
 closed_below g u reach live below p there =
     by_equal p u (λ t e. below p (ap (λ q. member q (ids g.vertices)) e ∙ live))
     (λ f n. below p (neighbour_live g u p (ap (λ b. b || member p (neighbours g u)) (sym f) ∙ there)))

@@ -2,7 +2,7 @@
 use Rattle.std.proofs.Common.{◌≡◌, ◌≢◌, refl, sym, ◌∙◌, ap, ap₂, ℕ, zero, suc, ◌<◌, Bool, true, false, ◌&&◌, ◌||◌, eqb, List, [], ◌∷◌, remove, eqb-true, true≢false, arith}
 use Rattle.zx_model.specs.Bits.{xor, member}
 use Rattle.zx_bits.specs.Sets.{IsBelow}
-use Rattle.zx_calculus.specs.Graph.{XY, Kind, End, Graph, ids, kind_of, plane_of, joined, end_vertices, insert_vertex, Live, OrderedEnds, WellFormed}
+use Rattle.zx_calculus.specs.Graph.{XY, Kind, End, Graph, ids, kind_of, plane_of, joined, end_vertices, insert_vertex, IsVertex, OrderedEnds, WellFormed}
 use Rattle.zx_calculus.specs.Splits.{spider_of_phase_zero}
 use Rattle.zx_calculus.specs.Edits.{is_pair, IsToggle}
 use Rattle.zx_calculus.specs.Turns.{in_plane}
@@ -14,7 +14,7 @@ use Rattle.zx_calculus.proofs.Splitting.{all_at, absent_from, joined-absent}
 use Rattle.graph_rewrites.specs.Internal.Spiders.{IsSpiderAdded}
 
 -- the vertex of an end is live
-pub end_live : (g : Graph) (ends : List End) (b : ℕ) → OrderedEnds g.vertices ends → member b (end_vertices ends) ≡ true → Live g b
+pub end_live : (g : Graph) (ends : List End) (b : ℕ) → OrderedEnds g.vertices ends → member b (end_vertices ends) ≡ true → IsVertex g b
 end_live g ends b o there = all_at (λ u. member u (ids g.vertices)) (end_vertices ends) b o.there there
 
 -- below a bound of all vertices and a new one
@@ -28,7 +28,7 @@ pub all_below : (new : ℕ) (old : List ℕ) (reach : ℕ) → new < reach → I
 all_below new old reach first rest v there = by_equal v new (λ t e. omega (arith, e, first)) (λ f n. rest v (ap (λ b. b || member v old) (sym f) ∙ there))
 
 -- ---- g is the graph with the new vertex, before its edge
-module _ (old : Graph) (b new phase : ℕ) (g : Graph) (b_live : Live old b) (fresh : member new (ids old.vertices) ≡ false) (zero_phase : phase ≡ 0)
+module _ (old : Graph) (b new phase : ℕ) (g : Graph) (b_live : IsVertex old b) (fresh : member new (ids old.vertices) ≡ false) (zero_phase : phase ≡ 0)
     (added : g ≡ record { vertices = insert_vertex (record { id = new; kind = in_plane XY phase }) old.vertices; edges = old.edges; inputs = old.inputs; outputs = old.outputs }) where
   vertices_are : g.vertices ≡ insert_vertex (spider_of_phase_zero new) old.vertices
   vertices_are = ap (λ (h : Graph). h.vertices) added ∙ ap (λ k. insert_vertex (record { id = new; kind = in_plane XY k }) old.vertices) zero_phase
@@ -36,10 +36,10 @@ module _ (old : Graph) (b new phase : ℕ) (g : Graph) (b_live : Live old b) (fr
   member_is : (p : ℕ) → member p (ids g.vertices) ≡ (eqb p new || member p (ids old.vertices))
   member_is p = ap (λ vs. member p (ids vs)) vertices_are ∙ member-insert p (spider_of_phase_zero new) old.vertices
 
-  pub b_still_live : Live g b
+  pub b_still_live : IsVertex g b
   b_still_live = member_is b ∙ ap (λ c. eqb b new || c) b_live ∙ or-true (eqb b new)
 
-  pub new_there : Live g new
+  pub new_there : IsVertex g new
   new_there = member_is new ∙ ap (λ c. c || member new (ids old.vertices)) (eqb-self new)
 
   pub b_apart : b ≢ new
@@ -74,7 +74,7 @@ module _ (old : Graph) (b new phase : ℕ) (g : Graph) (b_live : Live old b) (fr
 
 -- ---- with the spider
 module _ (old : Graph) (b new : ℕ) (h : Graph) (s : IsSpiderAdded old b new h) where
-  pub new_live : Live h new
+  pub new_live : IsVertex h new
   new_live = ap (λ vs. member new (ids vs)) s.vertices ∙ member-insert new (spider_of_phase_zero new) old.vertices ∙ ap (λ c. c || member new (ids old.vertices)) (eqb-self new)
 
   pub new_plane : plane_of h new ≡ XY

@@ -2,7 +2,7 @@
 use Rattle.std.proofs.Common.{◌≡◌, refl, sym, ◌∙◌, ap, subst, not, ℕ, zero, suc, ◌<◌, true, false, ◌||◌, eqb, eq-eqb, List, [], ◌∷◌, length, set, slice_get, get_or, Some}
 use Rattle.std.proofs.lemmas.Option.{slice_get-get_or, slice_get_within, same_Some}
 use Rattle.zx_model.specs.Bits.{member}
-use Rattle.zx_calculus.specs.Graph.{End, Graph, end_vertices, in_order, different, Live, OrderedEnds, WellFormed}
+use Rattle.zx_calculus.specs.Graph.{End, Graph, end_vertices, in_order, different, IsVertex, OrderedEnds, WellFormed}
 use Rattle.zx_calculus.specs.Splits.{mark_of, move_end, new_vertex, IsSplitInput, IsSplitOutput}
 use Rattle.zx_calculus.specs.Steps.{allowed, IsStep}
 use Rattle.zx_calculus.specs.StepScalars.{step_scalar}
@@ -35,7 +35,7 @@ ends_kept Input g h kept = kept.inputs
 ends_kept Output g h kept = kept.outputs
 
 -- the vertex of an end that may be split is live
-pub split_live : (side : Side) (g : Graph) (b : ℕ) → WellFormed g → allowed g (split_of side b) ≡ true → Live g b
+pub split_live : (side : Side) (g : Graph) (b : ℕ) → WellFormed g → allowed g (split_of side b) ≡ true → IsVertex g b
 split_live side g b w may = end_live g (ends_of side g) b (ends_ordered side g w) (sym (allowed_is side g b) ∙ may)
 
 -- ---- the end at b, and its place

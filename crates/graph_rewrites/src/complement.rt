@@ -1,7 +1,7 @@
 //! The local complement about a vertex.
 
 ghost use Rattle.std.specs.Prelude.{◌≡◌, true, IsOk, IfOk, OnOk};
-ghost use Rattle.zx_calculus.specs.Graph.{ids, Live, Interior, WellFormed};
+ghost use Rattle.zx_calculus.specs.Graph.{ids, IsVertex, Interior, WellFormed};
 ghost use Rattle.zx_calculus.specs.Steps.{allowed, IsStep, LocalComplement};
 ghost use Rattle.zx_calculus.specs.Edits.{at_vertex};
 ghost use Rattle.zx_calculus.specs.Internal.ChangedKinds.{with_changed};
@@ -46,7 +46,7 @@ pub fn local_complement_in_graph(g: &mut OpenGraph, u: VertexId) -> Result<Scala
 
 // What a local complement about a vertex makes of its own plane and phase.
 fn complement_own(g: &mut OpenGraph, u: VertexId)
-    requires live { Live g.old.graph u }
+    requires live { IsVertex g.old.graph u }
     requires interior { Interior g.old.graph u }
     ensures own { g.new.graph ≡ with_changed (at_vertex u complemented) g.old.graph }
     ensures room { g.new.room ≡ g.old.room }

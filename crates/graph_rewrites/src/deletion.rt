@@ -1,7 +1,7 @@
 //! The deletion of a vertex of half turns.
 
 ghost use Rattle.std.specs.Prelude.{◌≡◌, true};
-ghost use Rattle.zx_calculus.specs.Graph.{joined, phase_of, Live, WellFormed};
+ghost use Rattle.zx_calculus.specs.Graph.{joined, phase_of, IsVertex, WellFormed};
 ghost use Rattle.zx_calculus.specs.Steps.{allowed, Delete, IsStep};
 ghost use Rattle.zx_calculus.specs.Deletions.{delete_kind};
 ghost use Rattle.zx_calculus.specs.Internal.ChangedKinds.{with_changed};
@@ -41,7 +41,7 @@ pub fn delete_in_graph(g: &mut OpenGraph, u: VertexId) -> Scalar
 
 // Gives each neighbour of a vertex of a half turn a half turn, and answers the scalar of the vertex's deletion.
 fn pass_half_turn(g: &mut OpenGraph, u: VertexId) -> Scalar
-    requires { Live g.old.graph u }
+    requires { IsVertex g.old.graph u }
     ensures turned { let near = joined g.old.graph.edges u in
         g.new.graph ≡ with_changed (delete_kind (phase_of g.old.graph u) near) g.old.graph }
     ensures scalar { result ≡ step_scalar g.old.graph (Delete u) }

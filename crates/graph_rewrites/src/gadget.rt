@@ -1,7 +1,7 @@
 //! What the rewrites of gadgets are made of.
 
 ghost use Rattle.std.specs.Prelude.{◌≡◌, pos};
-ghost use Rattle.zx_calculus.specs.Graph.{plane_of, phase_of, Live, WellFormed};
+ghost use Rattle.zx_calculus.specs.Graph.{plane_of, phase_of, IsVertex, WellFormed};
 ghost use Rattle.zx_calculus.specs.Graph as zx;
 ghost use Rattle.zx_calculus.specs.Edits.{IsRemoval};
 ghost use Rattle.zx_calculus.specs.Gadgets.{fuse_kind, is_gadget};
@@ -36,7 +36,7 @@ pub(crate) fn gadget_scalar() -> Scalar
 
 // Takes a gadget out of a graph, and answers its phase.
 pub(crate) fn take_out(g: &mut OpenGraph, u: VertexId) -> Sixteenth
-    requires live { Live g.old.graph u }
+    requires live { IsVertex g.old.graph u }
     requires gadget { plane_of g.old.graph u ≡ zx.YZ }
     ensures phase { result ≡ phase_of g.old.graph u }
     ensures removed { IsRemoval g.old.graph u g.new.graph }
@@ -51,7 +51,7 @@ pub(crate) fn take_out(g: &mut OpenGraph, u: VertexId) -> Sixteenth
 
 // Adds a phase to that of a vertex.
 pub(crate) fn add_phase(g: &mut OpenGraph, v: VertexId, phase: Sixteenth)
-    requires { Live g.old.graph v }
+    requires { IsVertex g.old.graph v }
     ensures added { g.new.graph ≡ with_changed (fuse_kind v phase) g.old.graph }
     ensures room { g.new.room ≡ g.old.room }
     ensures valid { WellFormed g.new.graph }

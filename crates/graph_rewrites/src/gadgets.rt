@@ -1,7 +1,7 @@
 //! The removal and the fusion of gadgets.
 
 ghost use Rattle.std.specs.Prelude.{◌≡◌, true};
-ghost use Rattle.zx_calculus.specs.Graph.{is_XY, plane_of, Live, WellFormed};
+ghost use Rattle.zx_calculus.specs.Graph.{is_XY, plane_of, IsVertex, WellFormed};
 ghost use Rattle.zx_calculus.specs.Steps.{allowed, DropLone, FuseInto, FuseTwin, IsStep};
 ghost use Rattle.zx_calculus.specs.StepScalars.{step_scalar};
 ghost use Rattle.open_graph.specs.Rooms.{with_place};
@@ -100,7 +100,7 @@ pub fn fuse_twin_in_graph(g: &mut OpenGraph, u: VertexId, v: VertexId) -> Scalar
 }
 
 fn is_xy(g: &OpenGraph, v: VertexId) -> bool
-    requires { Live g.now.graph v }
+    requires { IsVertex g.now.graph v }
     ensures { result ≡ is_XY (plane_of g.now.graph v) }
 {
     let (plane, _) = g.weight(v);

@@ -2,7 +2,7 @@
 
 ghost use Rattle.std.specs.Prelude.{◌≡◌, ◌≢◌, true, IsOk, IfOk, OnOk};
 ghost use Rattle.zx_bits.specs.Sets.{IsBelow};
-ghost use Rattle.zx_calculus.specs.Graph.{ids, joined, neighbours, Live, Interior, WellFormed};
+ghost use Rattle.zx_calculus.specs.Graph.{ids, joined, neighbours, IsVertex, Interior, WellFormed};
 ghost use Rattle.zx_calculus.specs.Steps.{allowed, IsStep, Pivot};
 ghost use Rattle.zx_calculus.specs.StepScalars.{step_scalar};
 ghost use Rattle.zx_calculus.specs.Edits.{at_vertex};
@@ -49,8 +49,8 @@ pub fn pivot_in_graph(g: &mut OpenGraph, u: VertexId, v: VertexId) -> Result<Sca
 
 // Turns the common neighbours of two vertices by a half.
 fn turn_common(g: &mut OpenGraph, u: VertexId, v: VertexId)
-    requires u_live { Live g.old.graph u }
-    requires v_live { Live g.old.graph v }
+    requires u_live { IsVertex g.old.graph u }
+    requires v_live { IsVertex g.old.graph v }
     ensures turned { let near = neighbours g.old.graph u in
         g.new.graph ≡ with_changed (half_turned_in near (joined g.old.graph.edges v)) g.old.graph }
     ensures room { g.new.room ≡ g.old.room }
@@ -68,7 +68,7 @@ fn turn_common(g: &mut OpenGraph, u: VertexId, v: VertexId)
 
 // Turns a vertex by a half.
 fn turn_half(g: &mut OpenGraph, p: VertexId)
-    requires { Live g.old.graph p }
+    requires { IsVertex g.old.graph p }
     ensures turned { g.new.graph ≡ with_changed (at_vertex p half_turned) g.old.graph }
     ensures room { g.new.room ≡ g.old.room }
     ensures valid { WellFormed g.new.graph }
@@ -79,8 +79,8 @@ fn turn_half(g: &mut OpenGraph, p: VertexId)
 
 // The edges of a pivot: all those between u or a neighbour of it and v or a neighbour of it.
 fn rewire(g: &mut OpenGraph, u: VertexId, v: VertexId) -> Result<(), AllocError>
-    requires u_live { Live g.old.graph u }
-    requires v_live { Live g.old.graph v }
+    requires u_live { IsVertex g.old.graph u }
+    requires v_live { IsVertex g.old.graph v }
     requires different { u ≢ v }
     requires adjacent { joined g.old.graph.edges u v ≡ true }
     ensures rewired { OnOk result (IsRewired g.old.graph u v g.new.graph) }
@@ -94,7 +94,7 @@ fn rewire(g: &mut OpenGraph, u: VertexId, v: VertexId) -> Result<(), AllocError>
 
 // What a pivot makes of the plane and phase of each of its two vertices.
 fn pivot_own(g: &mut OpenGraph, u: VertexId)
-    requires live { Live g.old.graph u }
+    requires live { IsVertex g.old.graph u }
     requires interior { Interior g.old.graph u }
     ensures own { g.new.graph ≡ with_changed (at_vertex u pivoted) g.old.graph }
     ensures room { g.new.room ≡ g.old.room }

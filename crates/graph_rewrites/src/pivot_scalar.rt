@@ -2,7 +2,7 @@
 
 ghost use Rattle.std.specs.Prelude.{◌≡◌, true};
 ghost use Rattle.zx_model.specs.Scalar.{IsWithin};
-ghost use Rattle.zx_calculus.specs.Graph.{plane_of, phase_of, Live, WellFormed};
+ghost use Rattle.zx_calculus.specs.Graph.{plane_of, phase_of, IsVertex, WellFormed};
 ghost use Rattle.zx_calculus.specs.Steps.{allowed, Pivot};
 ghost use Rattle.zx_calculus.specs.StepScalars.{step_scalar};
 ghost use Rattle.zx_calculus.specs.Pivots.{pivot_scalar_in, common_neighbours};
@@ -31,7 +31,7 @@ pub(crate) fn pivot_scalar(g: &OpenGraph, u: VertexId, v: VertexId) -> Scalar
 
 // What one of the two vertices gives.
 fn own_scalar(g: &OpenGraph, u: VertexId) -> Scalar
-    requires { Live g.now.graph u }
+    requires { IsVertex g.now.graph u }
     ensures value { result ≡ pivot_scalar_in (plane_of g.now.graph u) (phase_of g.now.graph u) }
     ensures small { IsWithin 2 result }
     ensures valid { WellFormed g.now.graph }
@@ -52,8 +52,8 @@ fn own_scalar(g: &OpenGraph, u: VertexId) -> Scalar
 
 // The power of z that a half turn of each common neighbour of two vertices gives.
 fn common_half_powers(g: &OpenGraph, u: VertexId, v: VertexId) -> Sixteenth
-    requires u_live { Live g.now.graph u }
-    requires v_live { Live g.now.graph v }
+    requires u_live { IsVertex g.now.graph u }
+    requires v_live { IsVertex g.now.graph v }
     ensures value { result ≡ half_powers g.now.graph (common_neighbours g.now.graph u v) }
 {
     let mut sum = Sixteenth::new(0);

@@ -2,7 +2,7 @@
 
 ghost use Rattle.std.specs.Prelude.{◌≡◌, ◌<◌, is_some, IfSome, false, length, remove, slice_get, slice_set};
 ghost use Rattle.zx_model.specs.Bits.{member};
-ghost use Rattle.zx_calculus.specs.Graph.{end_vertices, plane_of, Live, WellFormed};
+ghost use Rattle.zx_calculus.specs.Graph.{end_vertices, plane_of, IsVertex, WellFormed};
 ghost use Rattle.zx_calculus.specs.Graph as zx;
 ghost use Rattle.graph_rewrites.specs.Internal.Sides.{ends_of, with_ends};
 
@@ -29,7 +29,7 @@ impl Side {
 
     // The place of a vertex's end on the side, where it has one.
     pub(crate) fn place_at(self, g: &OpenGraph, v: VertexId) -> Option<usize>
-        requires { Live g.now.graph v }
+        requires { IsVertex g.now.graph v }
         ensures found { is_some result ≡ member v (end_vertices (ends_of self g.now.graph)) }
         ensures place { IfSome result (λ i. slice_get (end_vertices (ends_of self g.now.graph)) i ≡ Some v) }
     {
@@ -42,7 +42,7 @@ impl Side {
     // Replaces the end of the side at a place.
     pub(crate) fn move_end(self, g: &mut OpenGraph, i: usize, end: End)
         requires in_range { i < length (ends_of self g.old.graph) }
-        requires live { Live g.old.graph end.vertex }
+        requires live { IsVertex g.old.graph end.vertex }
         requires plane { plane_of g.old.graph end.vertex ≡ zx.XY }
         requires free { member end.vertex (end_vertices (remove (ends_of self g.old.graph) i)) ≡ false }
         ensures ok { let ends = slice_set (ends_of self g.old.graph) i end in

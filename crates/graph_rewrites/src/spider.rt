@@ -1,7 +1,7 @@
 //! What a split is made of.
 
 ghost use Rattle.std.specs.Prelude.{◌≡◌, ◌<◌, not, IsOk, IfOk, OnOk};
-ghost use Rattle.zx_calculus.specs.Graph.{Live, WellFormed};
+ghost use Rattle.zx_calculus.specs.Graph.{IsVertex, WellFormed};
 ghost use Rattle.zx_calculus.specs.Splits.{new_vertex, split_scalar};
 ghost use Rattle.graph_rewrites.specs.Internal.Spiders.{IsSpiderAdded};
 ghost use Rattle.open_graph.specs.Rooms.{without_place};
@@ -12,7 +12,7 @@ use zx_model::{Scalar, Sixteenth};
 
 // A new spider of phase 0, adjacent to b alone.
 pub(crate) fn add_spider(g: &mut OpenGraph, b: VertexId) -> Result<VertexId, AllocError>
-    requires live { Live g.old.graph b }
+    requires live { IsVertex g.old.graph b }
     requires valid { WellFormed g.old.graph }
     ensures new { IfOk result (λ new. new ≡ new_vertex g.old.graph) }
     ensures added { IfOk result (λ new. IsSpiderAdded g.old.graph b new g.new.graph) }

@@ -2,10 +2,9 @@
 use Rattle.std.proofs.Common.{◌≡◌, refl, ap, true≢false, ℕ, ◌+◌, ◌≤◌, Bool, true, false, ◌&&◌, arith, [], ◌∷◌, length, set}
 use Rattle.std.specs.List.{count_by}
 use Rattle.zx_model.specs.Bits.{member, one_if}
-use Rattle.zx_calculus.specs.Graph.{Graph, ids, end_vertices, WellFormed}
+use Rattle.zx_calculus.specs.Graph.{Graph, ids, end_vertices, WellFormed, plain}
 use Rattle.zx_calculus.specs.Gadgets.{fuse_kind}
 use Rattle.zx_calculus.specs.Splits.{spider_of_phase_zero}
-use Rattle.zx_calculus.specs.Worked.{plain}
 use Rattle.zx_calculus.proofs.CountLemmas.{Test, count, count-with_kinds, count_at_most, count-insert}
 use Rattle.zx_calculus.proofs.Ids.{apart_of_member}
 use Rattle.zx_calculus.proofs.Splitting.{distinct, absent_from}

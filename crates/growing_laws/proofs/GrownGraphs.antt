@@ -5,7 +5,7 @@ use Rattle.std.proofs.lemmas.List.Folds.{list_all-append}
 use Rattle.std.proofs.lemmas.List.FromFn.{length-map-range_with_len}
 use Rattle.std.proofs.lemmas.List.Sums.{fold-append}
 use Rattle.zx_model.specs.Bits.{member}
-use Rattle.zx_calculus.specs.Graph.{End, Graph, ids, Live, WellFormed}
+use Rattle.zx_calculus.specs.Graph.{End, Graph, ids, IsVertex, WellFormed}
 use Rattle.zx_calculus.specs.Counts.{odd_phases}
 use Rattle.zx_calculus.specs.Reduced.{IsReduced}
 use Rattle.zx_calculus.specs.Splits.{spider_of_phase_zero, new_vertex}
@@ -133,7 +133,7 @@ module _ (n : ℕ) (gates : List Gate) (on : All (IsOnQubits n) gates) where
 
   pub gate_renamed : (to back : ℕ → ℕ) (g h : Graph) (new other : ℕ) (gate : Gate) → IsGrowing new n g → WellFormed h → member other (ids h.vertices) ≡ false →
       IsRenamed to back g h → IsBasic gate → IsOnQubits n gate →
-      (to' : ℕ → ℕ) × (back' : ℕ → ℕ) × IsRenamed to' back' (placed new g gate) (placed other h gate) × ((v : ℕ) → Live g v → to' v ≡ to v)
+      (to' : ℕ → ℕ) × (back' : ℕ → ℕ) × IsRenamed to' back' (placed new g gate) (placed other h gate) × ((v : ℕ) → IsVertex g v → to' v ≡ to v)
   gate_renamed to back g h new other (H q) r w fresh named basic here = (
     with_name new other to,
     with_name other new back,
@@ -181,7 +181,7 @@ module _ (n : ℕ) (gates : List Gate) (on : All (IsOnQubits n) gates) where
   }
     where
       names : (to' : ℕ → ℕ) × (back' : ℕ → ℕ) × IsRenamed to' back' (placed (ids_after n gates) c.reaches.graph gate) (placed new h gate)
-          × ((v : ℕ) → Live c.reaches.graph v → to' v ≡ c.reaches.to v)
+          × ((v : ℕ) → IsVertex c.reaches.graph v → to' v ≡ c.reaches.to v)
       names = gate_renamed c.reaches.to c.reaches.back c.reaches.graph h (ids_after n gates) new gate (reached h c) w fresh c.reaches.renamed basic here
 
 -- ---- ids as in the graph of the gates

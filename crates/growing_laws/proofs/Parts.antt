@@ -2,12 +2,11 @@
 use Rattle.std.proofs.Common.{◌≡◌, ◌≢◌, refl, sym, ◌∙◌, ap, ap₂, true≢false, ℕ, zero, suc, ◌<◌, Bool, true, false, cond, ◌&&◌, ◌||◌, eqb, ltb, ne_eqb, arith, List, [], ◌∷◌, length, get_or, set}
 use Rattle.zx_model.specs.Bits.{member}
 use Rattle.zx_model.specs.Phase.{sum_of_phases}
-use Rattle.zx_calculus.specs.Graph.{XY, Kind, Vertex, End, ids, kind_of, in_order, end_vertices, with_kinds, without, insert_vertex, Distinct}
+use Rattle.zx_calculus.specs.Graph.{XY, Kind, Vertex, End, ids, kind_of, in_order, end_vertices, with_kinds, without, insert_vertex, Distinct, plain}
 use Rattle.zx_calculus.specs.Edits.{is_pair}
 use Rattle.zx_calculus.specs.Gadgets.{fuse_kind}
 use Rattle.zx_calculus.specs.Splits.{spider_of_phase_zero}
 use Rattle.zx_calculus.specs.Turns.{in_plane, with_phase_added}
-use Rattle.zx_calculus.specs.Worked.{plain}
 use Rattle.zx_calculus.proofs.Booleans.{or-true}
 use Rattle.zx_calculus.proofs.Ids.{by_equal, or-left, or-right}
 use Rattle.zx_calculus.proofs.Vertices.{ids-with_kinds, kind_of-with_kinds, without-with_kinds, member-insert}

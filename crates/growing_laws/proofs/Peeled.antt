@@ -4,12 +4,11 @@ use Rattle.std.proofs.Math.ListN.{length-set}
 use Rattle.std.proofs.lemmas.Option.{slice_get-get_or}
 use Rattle.zx_model.specs.Bits.{member}
 use Rattle.zx_model.specs.Number.{one}
-use Rattle.zx_calculus.specs.Graph.{Graph, ids, end_vertices, WellFormed}
+use Rattle.zx_calculus.specs.Graph.{Graph, ids, end_vertices, WellFormed, plain}
 use Rattle.zx_calculus.specs.Edits.{IsToggle}
 use Rattle.zx_calculus.specs.Gadgets.{fuse_kind}
 use Rattle.zx_calculus.specs.Splits.{IsSplitOutput, split_output_graph, spider_of_phase_zero}
 use Rattle.zx_calculus.specs.Counts.{odd_phases}
-use Rattle.zx_calculus.specs.Worked.{plain}
 use Rattle.zx_calculus.proofs.Ids.{by_test, by_equal}
 use Rattle.zx_calculus.proofs.Vertices.{ids-with_kinds, length-with_kinds, length-insert, member-insert}
 use Rattle.zx_calculus.proofs.Splits.{after_split_output}

@@ -1,7 +1,7 @@
 -- A graph with a gate behind its outputs, by the parts of the gate.
 use Rattle.std.proofs.Common.{◌≡◌, ◌≢◌, refl, sym, ◌∙◌, ap, ap₂, subst, ℕ, ◌<◌, true, false, ◌&&◌, ◌||◌, eqb, List, length}
 use Rattle.zx_model.specs.Bits.{xor, member}
-use Rattle.zx_calculus.specs.Graph.{XY, End, Graph, ids, joined, plane_of, is_XY, kind_of, end_vertices, WellFormed, Live, OrderedEdges}
+use Rattle.zx_calculus.specs.Graph.{XY, End, Graph, ids, joined, plane_of, is_XY, kind_of, end_vertices, WellFormed, IsVertex, OrderedEdges}
 use Rattle.zx_calculus.specs.Edits.{is_pair, IsToggle}
 use Rattle.zx_calculus.specs.Gadgets.{fuse_kind}
 use Rattle.zx_calculus.specs.Splits.{IsSplitOutput, split_output_graph}
@@ -27,13 +27,13 @@ pub record IsPlaced (new : ℕ) (es : List End) (gate : Gate) (g k : Graph) : Ty
   pub outputs : k.outputs ≡ moved new es gate
 
 module _ (g : Graph) (w : WellFormed g) where
-  pub output_live : (u : ℕ) → member u (end_vertices g.outputs) ≡ true → Live g u
+  pub output_live : (u : ℕ) → member u (end_vertices g.outputs) ≡ true → IsVertex g u
   output_live u there = end_there g w u g.outputs w.outputs.there there
 
   pub output_XY : (u : ℕ) → member u (end_vertices g.outputs) ≡ true → plane_of g u ≡ XY
   output_XY u there = plane_XY _ (all_at (λ v. is_XY (kind_of g.vertices v).plane) (end_vertices g.outputs) u w.outputs.at_XY there)
 
-  pub spot_live : (q : ℕ) → q < length g.outputs → Live g (spot g.outputs q)
+  pub spot_live : (q : ℕ) → q < length g.outputs → IsVertex g (spot g.outputs q)
   spot_live q lt = output_live (spot g.outputs q) (spot_there g.outputs q lt)
 
   pub spots_differ : (p q : ℕ) → p < length g.outputs → q < length g.outputs → p ≢ q → spot g.outputs p ≢ spot g.outputs q

@@ -2,7 +2,7 @@
 use Rattle.std.proofs.Common.{◌≡◌, ◌≢◌, refl, sym, ◌∙◌, ap, ap₂, subst, true≢false, ℕ, Bool, true, false, cond, ◌&&◌, ◌||◌, not, eqb, ne_eqb, eq-eqb, List, [], ◌∷◌, map}
 use Rattle.std.specs.List.{list_all}
 use Rattle.zx_model.specs.Bits.{xor, member}
-use Rattle.zx_calculus.specs.Graph.{XY, Kind, Vertex, End, Graph, ids, joined, neighbours, kind_of, plane_of, phase_of, is_XY, end_vertices, with_kinds, without, Live, Interior, WellFormed}
+use Rattle.zx_calculus.specs.Graph.{XY, Kind, Vertex, End, Graph, ids, joined, neighbours, kind_of, plane_of, phase_of, is_XY, end_vertices, with_kinds, without, IsVertex, Interior, WellFormed}
 use Rattle.zx_calculus.specs.Adjacency.{adjacent_graph}
 use Rattle.zx_calculus.specs.Edits.{KeepsEnds}
 use Rattle.zx_calculus.specs.Complements.{IsLocalComplement, complement_kind, complemented_graph}
@@ -38,14 +38,14 @@ member-renamed to live (e ∷ es) u all same =
 
 -- ---- two graphs, one named as the other
 module _ (to back : ℕ → ℕ) (g h : Graph) (wg : WellFormed g) (wh : WellFormed h) (R : IsRenamed to back g h) where
-  pub one_name : (u v : ℕ) → Live g u → Live g v → to u ≡ to v → u ≡ v
+  pub one_name : (u v : ℕ) → IsVertex g u → IsVertex g v → to u ≡ to v → u ≡ v
   one_name u v there there' e = sym (R.same u there) ∙ ap back e ∙ R.same v there'
 
-  pub eqb-named : (u v : ℕ) → Live g u → Live g v → eqb (to u) (to v) ≡ eqb u v
+  pub eqb-named : (u v : ℕ) → IsVertex g u → IsVertex g v → eqb (to u) (to v) ≡ eqb u v
   eqb-named u v there there' =
       by_equal u v (λ t e. eq-eqb (to u) (to v) (ap to e) ∙ sym t) (λ f n. ne_eqb (to u) (to v) (λ e. n (one_name u v there there' e)) ∙ sym f)
 
-  pub inside : (u : ℕ) → Live g u → Interior g u → Interior h (to u)
+  pub inside : (u : ℕ) → IsVertex g u → Interior g u → Interior h (to u)
   inside u there inner = record {
     no_input = ap (λ es. member (to u) (end_vertices es)) R.inputs
         ∙ member-renamed to (λ p. member p (ids g.vertices)) g.inputs u wg.inputs.there (λ p t. eqb-named u p there t) ∙ inner.no_input;
@@ -53,17 +53,17 @@ module _ (to back : ℕ → ℕ) (g h : Graph) (wg : WellFormed g) (wh : WellFor
         ∙ member-renamed to (λ p. member p (ids g.vertices)) g.outputs u wg.outputs.there (λ p t. eqb-named u p there t) ∙ inner.no_output;
   }
 
-  pub plane : (u : ℕ) → Live g u → plane_of h (to u) ≡ plane_of g u
+  pub plane : (u : ℕ) → IsVertex g u → plane_of h (to u) ≡ plane_of g u
   plane u there = ap (λ (k : Kind). k.plane) (R.kinds u there)
 
-  pub phase : (u : ℕ) → Live g u → phase_of h (to u) ≡ phase_of g u
+  pub phase : (u : ℕ) → IsVertex g u → phase_of h (to u) ≡ phase_of g u
   phase u there = ap (λ (k : Kind). k.phase) (R.kinds u there)
 
   off_plane : (u : ℕ) → plane_of g u ≢ XY → Interior g u
   off_plane u n = interior_of g u wg (off_XY (plane_of g u) n)
 
   -- what is adjacent to a vertex of h, by old names
-  row : (test : ℕ → Bool) (u : ℕ) → Live g u → ((p : ℕ) → Live g p → joined g.edges u p ≡ test (to p)) →
+  row : (test : ℕ → Bool) (u : ℕ) → IsVertex g u → ((p : ℕ) → IsVertex g p → joined g.edges u p ≡ test (to p)) →
       ((p : ℕ) → member p (ids h.vertices) ≡ false → test p ≡ false) → (p : ℕ) → joined h.edges (to u) p ≡ test p
   row test u there old none p =
       by_test (member p (ids h.vertices))
@@ -78,14 +78,14 @@ module _ (to back : ℕ → ℕ) (g h : Graph) (wg : WellFormed g) (wh : WellFor
 
     -- kinds change, and edges are toggled
     changed : (f f' : ℕ → Kind → Kind) → g'.vertices ≡ with_kinds f g.vertices → h'.vertices ≡ with_kinds f' h.vertices →
-        ((p : ℕ) (k : Kind) → Live g p → f' (to p) k ≡ f p k) →
-        ((p q : ℕ) → Live g p → Live g q → joined h'.edges (to p) (to q) ≡ joined g'.edges p q) → IsRenamed to back g' h'
+        ((p : ℕ) (k : Kind) → IsVertex g p → f' (to p) k ≡ f p k) →
+        ((p q : ℕ) → IsVertex g p → IsVertex g q → joined h'.edges (to p) (to q) ≡ joined g'.edges p q) → IsRenamed to back g' h'
     changed f f' vg vh same edges = record {
       there = λ v t. later (to v) (R.there v (earlier v t));
       there_back = λ v t. live_g (back v) (R.there_back v (live_h v t));
       same = λ v t. R.same v (earlier v t);
       same_back = λ v t. R.same_back v (live_h v t);
-      kinds = λ v t. let old : Live g v = earlier v t in
+      kinds = λ v t. let old : IsVertex g v = earlier v t in
           ap (λ vs. kind_of vs (to v)) vh ∙ kind_of-with_kinds f' (to v) h.vertices (R.there v old)
           ∙ same v (kind_of h.vertices (to v)) old ∙ ap (f v) (R.kinds v old)
           ∙ sym (ap (λ vs. kind_of vs v) vg ∙ kind_of-with_kinds f v g.vertices old);
@@ -94,22 +94,22 @@ module _ (to back : ℕ → ℕ) (g h : Graph) (wg : WellFormed g) (wh : WellFor
       outputs = ends h'.outputs h.outputs g.outputs fh.outputs R.outputs g'.outputs fg.outputs;
     }
       where
-        earlier : (v : ℕ) → Live g' v → Live g v
+        earlier : (v : ℕ) → IsVertex g' v → IsVertex g v
         earlier v t = sym (ap (λ vs. member v (ids vs)) vg ∙ ap (member v) (ids-with_kinds f g.vertices)) ∙ t
 
-        live_g : (v : ℕ) → Live g v → Live g' v
+        live_g : (v : ℕ) → IsVertex g v → IsVertex g' v
         live_g v t = ap (λ vs. member v (ids vs)) vg ∙ ap (member v) (ids-with_kinds f g.vertices) ∙ t
 
-        live_h : (v : ℕ) → Live h' v → Live h v
+        live_h : (v : ℕ) → IsVertex h' v → IsVertex h v
         live_h v t = sym (ap (λ vs. member v (ids vs)) vh ∙ ap (member v) (ids-with_kinds f' h.vertices)) ∙ t
 
-        later : (v : ℕ) → Live h v → Live h' v
+        later : (v : ℕ) → IsVertex h v → IsVertex h' v
         later v t = ap (λ vs. member v (ids vs)) vh ∙ ap (member v) (ids-with_kinds f' h.vertices) ∙ t
 
     -- a vertex goes, and kinds change
-    changed_left : (f f' : ℕ → Kind → Kind) (u : ℕ) → Live g u → g'.vertices ≡ with_kinds f (without u g.vertices) →
+    changed_left : (f f' : ℕ → Kind → Kind) (u : ℕ) → IsVertex g u → g'.vertices ≡ with_kinds f (without u g.vertices) →
         h'.vertices ≡ with_kinds f' (without (to u) h.vertices) →
-        ((p : ℕ) (k : Kind) → Live g p → f' (to p) k ≡ f p k) →
+        ((p : ℕ) (k : Kind) → IsVertex g p → f' (to p) k ≡ f p k) →
         ((p q : ℕ) → p ≢ u → q ≢ u → joined g'.edges p q ≡ joined g.edges p q) →
         ((p q : ℕ) → p ≢ to u → q ≢ to u → joined h'.edges p q ≡ joined h.edges p q) → IsRenamed to back g' h'
     changed_left f f' u u_there vg vh same eg eh = record {
@@ -117,7 +117,7 @@ module _ (to back : ℕ → ℕ) (g h : Graph) (wg : WellFormed g) (wh : WellFor
       there_back = λ v t. live_g (back v) (R.there_back v (live_h v t)) (λ e. other_h v t (sym (R.same_back v (live_h v t)) ∙ ap to e));
       same = λ v t. R.same v (earlier v t);
       same_back = λ v t. R.same_back v (live_h v t);
-      kinds = λ v t. let old : Live g v = earlier v t in
+      kinds = λ v t. let old : IsVertex g v = earlier v t in
           ap (λ vs. kind_of vs (to v)) vh ∙ kind_of-with_kinds f' (to v) (without (to u) h.vertices) (left (to v) (to u) h.vertices (R.there v old) (other v t))
           ∙ ap (f' (to v)) (kind_of-without (to v) (to u) h.vertices (other v t))
           ∙ same v (kind_of h.vertices (to v)) old ∙ ap (f v) (R.kinds v old ∙ sym (kind_of-without v u g.vertices (not_u v t)))
@@ -130,31 +130,31 @@ module _ (to back : ℕ → ℕ) (g h : Graph) (wg : WellFormed g) (wh : WellFor
         left : (v w : ℕ) (vs : List Vertex) → member v (ids vs) ≡ true → v ≢ w → member v (ids (without w vs)) ≡ true
         left v w vs t n = ap (member v) (ids-without w vs) ∙ member-removed_other v w (ids vs) n ∙ t
 
-        in_rest : (v : ℕ) → Live g' v → member v (ids (without u g.vertices)) ≡ true
+        in_rest : (v : ℕ) → IsVertex g' v → member v (ids (without u g.vertices)) ≡ true
         in_rest v t = sym (ap (λ vs. member v (ids vs)) vg ∙ ap (member v) (ids-with_kinds f (without u g.vertices))) ∙ t
 
-        in_rest_h : (v : ℕ) → Live h' v → member v (ids (without (to u) h.vertices)) ≡ true
+        in_rest_h : (v : ℕ) → IsVertex h' v → member v (ids (without (to u) h.vertices)) ≡ true
         in_rest_h v t = sym (ap (λ vs. member v (ids vs)) vh ∙ ap (member v) (ids-with_kinds f' (without (to u) h.vertices))) ∙ t
 
-        not_u : (v : ℕ) → Live g' v → v ≢ u
+        not_u : (v : ℕ) → IsVertex g' v → v ≢ u
         not_u v t = apart_of_member v u (ids (without u g.vertices)) (in_rest v t) (member-without u g.vertices)
 
-        other_h : (v : ℕ) → Live h' v → v ≢ to u
+        other_h : (v : ℕ) → IsVertex h' v → v ≢ to u
         other_h v t = apart_of_member v (to u) (ids (without (to u) h.vertices)) (in_rest_h v t) (member-without (to u) h.vertices)
 
-        earlier : (v : ℕ) → Live g' v → Live g v
+        earlier : (v : ℕ) → IsVertex g' v → IsVertex g v
         earlier v t = sym (ap (member v) (ids-without u g.vertices) ∙ member-removed_other v u (ids g.vertices) (not_u v t)) ∙ in_rest v t
 
-        live_h : (v : ℕ) → Live h' v → Live h v
+        live_h : (v : ℕ) → IsVertex h' v → IsVertex h v
         live_h v t = sym (ap (member v) (ids-without (to u) h.vertices) ∙ member-removed_other v (to u) (ids h.vertices) (other_h v t)) ∙ in_rest_h v t
 
-        other : (v : ℕ) → Live g' v → to v ≢ to u
+        other : (v : ℕ) → IsVertex g' v → to v ≢ to u
         other v t e = not_u v t (one_name v u (earlier v t) u_there e)
 
-        live_g : (v : ℕ) → Live g v → v ≢ u → Live g' v
+        live_g : (v : ℕ) → IsVertex g v → v ≢ u → IsVertex g' v
         live_g v t n = ap (λ vs. member v (ids vs)) vg ∙ ap (member v) (ids-with_kinds f (without u g.vertices)) ∙ left v u g.vertices t n
 
-        later : (v : ℕ) → Live h v → v ≢ to u → Live h' v
+        later : (v : ℕ) → IsVertex h v → v ≢ to u → IsVertex h' v
         later v t n = ap (λ vs. member v (ids vs)) vh ∙ ap (member v) (ids-with_kinds f' (without (to u) h.vertices)) ∙ left v (to u) h.vertices t n
 
   -- ---- the steps
@@ -164,10 +164,10 @@ module _ (to back : ℕ → ℕ) (g h : Graph) (wg : WellFormed g) (wh : WellFor
       step : IsLocalComplement h (to u) (complemented_graph h (to u))
       step = after_step h (LocalComplement (to u)) wh (both _ _ (R.there u c.there) (interior_true h (to u) (inside u c.there c.interior)))
 
-      kinds : (p : ℕ) (k : Kind) → Live g p → complement_kind (to u) (joined h.edges (to u)) (to p) k ≡ complement_kind u (joined g.edges u) p k
+      kinds : (p : ℕ) (k : Kind) → IsVertex g p → complement_kind (to u) (joined h.edges (to u)) (to p) k ≡ complement_kind u (joined g.edges u) p k
       kinds p k t = ap₂ (λ a b. cond a (complemented k) (cond b (quarter_turned k) k)) (eqb-named p u t c.there) (R.edges u p c.there t)
 
-      edges : (p q : ℕ) → Live g p → Live g q → joined (complemented_graph h (to u)).edges (to p) (to q) ≡ joined g'.edges p q
+      edges : (p q : ℕ) → IsVertex g p → IsVertex g q → joined (complemented_graph h (to u)).edges (to p) (to q) ≡ joined g'.edges p q
       edges p q t s =
           by_equal p q
           (λ _ e. ap (λ r. joined (complemented_graph h (to u)).edges (to p) (to r)) (sym e) ∙ no_loop (complemented_graph h (to u)) (to p) (step_kept h (LocalComplement (to u)) (complemented_graph h (to u)) wh step)
@@ -179,7 +179,7 @@ module _ (to back : ℕ → ℕ) (g h : Graph) (wg : WellFormed g) (wh : WellFor
   delete u g' c =
       (deleted_graph h (to u), step, changed_left g' (deleted_graph h (to u)) c.frame step.frame _ _ u there c.vertices step.vertices kinds c.edges step.edges)
     where
-      there : Live g u
+      there : IsVertex g u
       there = c.deletable.there
 
       may : allowed g (Delete u) ≡ true
@@ -198,7 +198,7 @@ module _ (to back : ℕ → ℕ) (g h : Graph) (wg : WellFormed g) (wh : WellFor
           (both (member (to u) (ids h.vertices)) (not (is_XY (plane_of h (to u)))) (R.there u there) (ap (λ p. not (is_XY p)) (plane u there) ∙ off_XY_plane))
           (ap is_half_turns (phase u there) ∙ of_half_turns))
 
-      kinds : (p : ℕ) (k : Kind) → Live g p → delete_kind (phase_of h (to u)) (joined h.edges (to u)) (to p) k ≡ delete_kind (phase_of g u) (joined g.edges u) p k
+      kinds : (p : ℕ) (k : Kind) → IsVertex g p → delete_kind (phase_of h (to u)) (joined h.edges (to u)) (to p) k ≡ delete_kind (phase_of g u) (joined g.edges u) p k
       kinds p k t = ap₂ (λ j near. cond (eqb j half_turn && near) (half_turned k) k) (phase u there) (R.edges u p there t)
 
   pivot : (u v : ℕ) (g' : Graph) → IsPivot g u v g' → (h' : Graph) × IsPivot h (to u) (to v) h' × IsRenamed to back g' h'
@@ -213,7 +213,7 @@ module _ (to back : ℕ → ℕ) (g h : Graph) (wg : WellFormed g) (wh : WellFor
           (both _ _ (both _ _ (interior_true h (to u) (inside u c.there c.interior)) (interior_true h (to v) (inside v c.there_too c.interior_too)))
           (R.edges u v c.there c.there_too ∙ c.adjacent)))
 
-      kinds : (p : ℕ) (k : Kind) → Live g p → pivot_kind (to u) (to v) (joined h.edges (to u)) (joined h.edges (to v)) (to p) k
+      kinds : (p : ℕ) (k : Kind) → IsVertex g p → pivot_kind (to u) (to v) (joined h.edges (to u)) (joined h.edges (to v)) (to p) k
           ≡ pivot_kind u v (joined g.edges u) (joined g.edges v) p k
       kinds p k t =
           ap₂ (λ a b. cond a (pivoted k) (cond b (half_turned k) k))
@@ -229,10 +229,10 @@ module _ (to back : ℕ → ℕ) (g h : Graph) (wg : WellFormed g) (wh : WellFor
       old_names : ℕ → ℕ → Bool
       old_names p q = live p q && joined g'.edges p q
 
-      away : (p q : ℕ) → Live g p → Live g q → p ≢ q → to p ≢ to q
+      away : (p q : ℕ) → IsVertex g p → IsVertex g q → p ≢ q → to p ≢ to q
       away p q t s n e = n (one_name p q t s e)
 
-      together : (p q : ℕ) → (Live g p → Live g q → joined after_h.edges (to p) (to q) ≡ joined g'.edges p q) → new_names p q ≡ old_names p q
+      together : (p q : ℕ) → (IsVertex g p → IsVertex g q → joined after_h.edges (to p) (to q) ≡ joined g'.edges p q) → new_names p q ≡ old_names p q
       together p q e =
           under (live p q) (joined after_h.edges (to p) (to q)) (joined g'.edges p q)
           (λ t. e (and-left (member p (ids g.vertices)) (member q (ids g.vertices)) t) (and-right (member p (ids g.vertices)) (member q (ids g.vertices)) t))
@@ -250,7 +250,7 @@ module _ (to back : ℕ → ℕ) (g h : Graph) (wg : WellFormed g) (wh : WellFor
           (ap₂ xor (ap₂ (λ a b. a && b) (R.edges u p c.there t) (R.edges v q c.there_too s)) (ap₂ (λ a b. a && b) (R.edges v p c.there_too t) (R.edges u q c.there s)))
           ∙ sym (c.between p q n m n' m' d)))
 
-      edges : (p q : ℕ) → Live g p → Live g q → joined after_h.edges (to p) (to q) ≡ joined g'.edges p q
+      edges : (p q : ℕ) → IsVertex g p → IsVertex g q → joined after_h.edges (to p) (to q) ≡ joined g'.edges p q
       edges p q t s =
           by_equal p q
           (λ _ e. ap (λ r. joined after_h.edges (to p) (to r)) (sym e) ∙ no_loop after_h (to p) (step_kept h (Pivot (to u) (to v)) after_h wh step)
@@ -310,7 +310,7 @@ module _ (to back : ℕ → ℕ) (g h : Graph) (wg : WellFormed g) (wh : WellFor
         frame = left_frame change (to u);
       }
 
-      kinds : (p : ℕ) (k : Kind) → Live g p → change (to p) k ≡ fuse_kind c.into (phase_of g u) p k
+      kinds : (p : ℕ) (k : Kind) → IsVertex g p → change (to p) k ≡ fuse_kind c.into (phase_of g u) p k
       kinds p k t = ap₂ (λ b j. cond b (with_phase_added j k) k) (eqb-named p c.into t c.into_there) (phase u c.there)
 
   pub into-named : (u : ℕ) (g' : Graph) → (c : IsFuseInto g u g') → neighbours h (to u) ≡ to c.into ∷ []
@@ -339,7 +339,7 @@ module _ (to back : ℕ → ℕ) (g h : Graph) (wg : WellFormed g) (wh : WellFor
         frame = left_frame change (to v);
       }
 
-      kinds : (p : ℕ) (k : Kind) → Live g p → change (to p) k ≡ fuse_kind u (phase_of g v) p k
+      kinds : (p : ℕ) (k : Kind) → IsVertex g p → change (to p) k ≡ fuse_kind u (phase_of g v) p k
       kinds p k t = ap₂ (λ b j. cond b (with_phase_added j k) k) (eqb-named p u t c.there) (phase v c.there_too)
 
   pub step_renamed : (s : Step) (g' : Graph) → is_split s ≡ false → IsStep g s g' → (h' : Graph) × IsStep h (renamed_step to s) h' × IsRenamed to back g' h'

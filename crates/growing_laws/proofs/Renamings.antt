@@ -3,12 +3,11 @@ use Rattle.std.proofs.Common.{◌≡◌, ◌⊎◌, inl, inr, refl, sym, ◌∙�
 use Rattle.std.specs.List.{list_all}
 use Rattle.std.proofs.lemmas.List.{map-set}
 use Rattle.zx_model.specs.Bits.{xor, member}
-use Rattle.zx_calculus.specs.Graph.{End, Graph, ids, joined, kind_of, end_vertices, with_kinds, insert_vertex, Live, WellFormed}
+use Rattle.zx_calculus.specs.Graph.{End, Graph, ids, joined, kind_of, end_vertices, with_kinds, insert_vertex, IsVertex, WellFormed, plain}
 use Rattle.zx_calculus.specs.Edits.{is_pair}
 use Rattle.zx_calculus.specs.Gadgets.{fuse_kind}
 use Rattle.zx_calculus.specs.Splits.{spider_of_phase_zero, move_end, new_vertex, IsSplitInput, IsSplitOutput, split_input_graph, split_output_graph}
 use Rattle.zx_calculus.specs.Turns.{with_phase_added}
-use Rattle.zx_calculus.specs.Worked.{plain}
 use Rattle.zx_calculus.proofs.Booleans.{or-true}
 use Rattle.zx_calculus.proofs.Ids.{by_equal, and-left, and-right, eqb-self, apart_of_member}
 use Rattle.zx_calculus.proofs.Kept.{kind_of-insert_other}
@@ -56,29 +55,29 @@ ends-moved to to' live b new new' (e ∷ es) all same names at_new =
     at false = ap (λ v. record { vertex = v; hadamard = e.hadamard }) (sym (same e.vertex (and-left _ _ all)))
 
 -- ---- one more vertex
-known : (new : ℕ) (g k : Graph) → k.vertices ≡ insert_vertex (spider_of_phase_zero new) g.vertices → (v : ℕ) → Live k v → (v ≡ new) ⊎ Live g v
+known : (new : ℕ) (g k : Graph) → k.vertices ≡ insert_vertex (spider_of_phase_zero new) g.vertices → (v : ℕ) → IsVertex k v → (v ≡ new) ⊎ IsVertex g v
 known new g k is v there =
     by_equal v new (λ t e. inl e)
     (λ f n. inr (ap (λ b. b || member v (ids g.vertices)) (sym f) ∙ sym (ap (λ vs. member v (ids vs)) is ∙ member-insert v (spider_of_phase_zero new) g.vertices) ∙ there))
 
-new_live : (new : ℕ) (g k : Graph) → k.vertices ≡ insert_vertex (spider_of_phase_zero new) g.vertices → Live k new
+new_live : (new : ℕ) (g k : Graph) → k.vertices ≡ insert_vertex (spider_of_phase_zero new) g.vertices → IsVertex k new
 new_live new g k is =
     ap (λ vs. member new (ids vs)) is ∙ member-insert new (spider_of_phase_zero new) g.vertices ∙ ap (λ b. b || member new (ids g.vertices)) (eqb-self new)
 
-old_live : (new : ℕ) (g k : Graph) → k.vertices ≡ insert_vertex (spider_of_phase_zero new) g.vertices → (v : ℕ) → Live g v → Live k v
+old_live : (new : ℕ) (g k : Graph) → k.vertices ≡ insert_vertex (spider_of_phase_zero new) g.vertices → (v : ℕ) → IsVertex g v → IsVertex k v
 old_live new g k is v there =
     ap (λ vs. member v (ids vs)) is ∙ member-insert v (spider_of_phase_zero new) g.vertices ∙ ap (λ b. eqb v new || b) there ∙ or-true (eqb v new)
 
 there_more : (to : ℕ → ℕ) (new new' : ℕ) (g k h l : Graph) → k.vertices ≡ insert_vertex (spider_of_phase_zero new) g.vertices →
     l.vertices ≡ insert_vertex (spider_of_phase_zero new') h.vertices → member new (ids g.vertices) ≡ false →
-    ((v : ℕ) → Live g v → Live h (to v)) → (v : ℕ) → (v ≡ new) ⊎ Live g v → Live l (with_name new new' to v)
+    ((v : ℕ) → IsVertex g v → IsVertex h (to v)) → (v : ℕ) → (v ≡ new) ⊎ IsVertex g v → IsVertex l (with_name new new' to v)
 there_more to new new' g k h l vk vl fresh there v (inl e) =
-    subst (λ x. Live l (with_name new new' to x)) (sym e) (subst (Live l) (sym (ranked-self new new' to)) (new_live new' h l vl))
+    subst (λ x. IsVertex l (with_name new new' to x)) (sym e) (subst (IsVertex l) (sym (ranked-self new new' to)) (new_live new' h l vl))
 there_more to new new' g k h l vk vl fresh there v (inr t) =
-    subst (Live l) (sym (ranked_other new new' to (ids g.vertices) v fresh t)) (old_live new' h l vl (to v) (there v t))
+    subst (IsVertex l) (sym (ranked_other new new' to (ids g.vertices) v fresh t)) (old_live new' h l vl (to v) (there v t))
 
 same_more : (to back : ℕ → ℕ) (new new' : ℕ) (g h : Graph) → member new (ids g.vertices) ≡ false → member new' (ids h.vertices) ≡ false →
-    ((v : ℕ) → Live g v → Live h (to v)) → ((v : ℕ) → Live g v → back (to v) ≡ v) → (v : ℕ) → (v ≡ new) ⊎ Live g v →
+    ((v : ℕ) → IsVertex g v → IsVertex h (to v)) → ((v : ℕ) → IsVertex g v → back (to v) ≡ v) → (v : ℕ) → (v ≡ new) ⊎ IsVertex g v →
     with_name new' new back (with_name new new' to v) ≡ v
 same_more to back new new' g h fresh fresh' there same v (inl e) =
     ap (λ x. with_name new' new back (with_name new new' to x)) e ∙ ap (with_name new' new back) (ranked-self new new' to)
@@ -94,8 +93,8 @@ module _ (to back : ℕ → ℕ) (g h : Graph) (wg : WellFormed g) (wh : WellFor
   same_length : length h.outputs ≡ length g.outputs
   same_length = ap length R.outputs ∙ length-renamed to g.outputs
 
-  module _ (new new' b : ℕ) (fresh : member new (ids g.vertices) ≡ false) (fresh' : member new' (ids h.vertices) ≡ false) (b_there : Live g b) where
-    named : (v : ℕ) → Live g v → with_name new new' to v ≡ to v
+  module _ (new new' b : ℕ) (fresh : member new (ids g.vertices) ≡ false) (fresh' : member new' (ids h.vertices) ≡ false) (b_there : IsVertex g b) where
+    named : (v : ℕ) → IsVertex g v → with_name new new' to v ≡ to v
     named v t = ranked_other new new' to (ids g.vertices) v fresh t
 
     ends_named : (es : List End) → list_all (λ p. member p (ids g.vertices)) (end_vertices es) ≡ true → renamed_ends to es ≡ renamed_ends (with_name new new' to) es
@@ -111,15 +110,15 @@ module _ (to back : ℕ → ℕ) (g h : Graph) (wg : WellFormed g) (wh : WellFor
         (vl : l.vertices ≡ insert_vertex (spider_of_phase_zero new') h.vertices)
         (ek : (v w : ℕ) → joined k.edges v w ≡ (joined g.edges v w || is_pair b new v w))
         (el : (v w : ℕ) → joined l.edges v w ≡ (joined h.edges v w || is_pair (to b) new' v w)) where
-      same_again : (v : ℕ) → (v ≡ new) ⊎ Live g v → with_name new' new back (with_name new new' to v) ≡ v
+      same_again : (v : ℕ) → (v ≡ new) ⊎ IsVertex g v → with_name new' new back (with_name new new' to v) ≡ v
       same_again = same_more to back new new' g h fresh fresh' R.there R.same
 
-      eqb_again : (v w : ℕ) → (v ≡ new) ⊎ Live g v → (w ≡ new) ⊎ Live g w → eqb (with_name new new' to v) (with_name new new' to w) ≡ eqb v w
+      eqb_again : (v w : ℕ) → (v ≡ new) ⊎ IsVertex g v → (w ≡ new) ⊎ IsVertex g w → eqb (with_name new new' to v) (with_name new new' to w) ≡ eqb v w
       eqb_again v w kv kw =
           by_equal v w (λ t e. eq-eqb (with_name new new' to v) (with_name new new' to w) (ap (with_name new new' to) e) ∙ sym t)
           (λ f n. ne_eqb (with_name new new' to v) (with_name new new' to w) (λ e. n (sym (same_again v kv) ∙ ap (with_name new' new back) e ∙ same_again w kw)) ∙ sym f)
 
-      kinds_again : (v : ℕ) → (v ≡ new) ⊎ Live g v → kind_of l.vertices (with_name new new' to v) ≡ kind_of k.vertices v
+      kinds_again : (v : ℕ) → (v ≡ new) ⊎ IsVertex g v → kind_of l.vertices (with_name new new' to v) ≡ kind_of k.vertices v
       kinds_again v (inl e) =
           ap (λ x. kind_of l.vertices (with_name new new' to x)) e ∙ ap (kind_of l.vertices) (ranked-self new new' to)
           ∙ ap (λ vs. kind_of vs new') vl ∙ kind_of-insert (spider_of_phase_zero new') h.vertices fresh'
@@ -130,7 +129,7 @@ module _ (to back : ℕ → ℕ) (g h : Graph) (wg : WellFormed g) (wh : WellFor
           ∙ R.kinds v t
           ∙ sym (ap (λ vs. kind_of vs v) vk ∙ kind_of-insert_other v (spider_of_phase_zero new) g.vertices (apart_of_member v new (ids g.vertices) t fresh))
 
-      old_edges : (v w : ℕ) → (v ≡ new) ⊎ Live g v → (w ≡ new) ⊎ Live g w → joined h.edges (with_name new new' to v) (with_name new new' to w) ≡ joined g.edges v w
+      old_edges : (v w : ℕ) → (v ≡ new) ⊎ IsVertex g v → (w ≡ new) ⊎ IsVertex g w → joined h.edges (with_name new new' to v) (with_name new new' to w) ≡ joined g.edges v w
       old_edges v w (inl e) kw =
           ap (λ x. joined h.edges (with_name new new' to x) (with_name new new' to w)) e ∙ ap (λ x. joined h.edges x (with_name new new' to w)) (ranked-self new new' to)
           ∙ absent_left h wh new' (with_name new new' to w) fresh' ∙ sym (ap (λ x. joined g.edges x w) e ∙ absent_left g wg new w fresh)
@@ -139,13 +138,13 @@ module _ (to back : ℕ → ℕ) (g h : Graph) (wg : WellFormed g) (wh : WellFor
           ∙ absent_right h wh (with_name new new' to v) new' fresh' ∙ sym (ap (joined g.edges v) e ∙ absent_right g wg v new fresh)
       old_edges v w (inr t) (inr s) = ap₂ (joined h.edges) (named v t) (named w s) ∙ R.edges v w t s
 
-      at_b : (v : ℕ) → (v ≡ new) ⊎ Live g v → eqb (with_name new new' to v) (to b) ≡ eqb v b
+      at_b : (v : ℕ) → (v ≡ new) ⊎ IsVertex g v → eqb (with_name new new' to v) (to b) ≡ eqb v b
       at_b v kv = ap (eqb (with_name new new' to v)) (sym (named b b_there)) ∙ eqb_again v b kv (inr b_there)
 
-      at_new : (v : ℕ) → (v ≡ new) ⊎ Live g v → eqb (with_name new new' to v) new' ≡ eqb v new
+      at_new : (v : ℕ) → (v ≡ new) ⊎ IsVertex g v → eqb (with_name new new' to v) new' ≡ eqb v new
       at_new v kv = ap (eqb (with_name new new' to v)) (sym (ranked-self new new' to)) ∙ eqb_again v new kv (inl refl)
 
-      edges_again : (v w : ℕ) → (v ≡ new) ⊎ Live g v → (w ≡ new) ⊎ Live g w →
+      edges_again : (v w : ℕ) → (v ≡ new) ⊎ IsVertex g v → (w ≡ new) ⊎ IsVertex g w →
           joined l.edges (with_name new new' to v) (with_name new new' to w) ≡ joined k.edges v w
       edges_again v w kv kw =
           el (with_name new new' to v) (with_name new new' to w)
@@ -204,10 +203,10 @@ module _ (to back : ℕ → ℕ) (g h : Graph) (wg : WellFormed g) (wh : WellFor
     outputs = R.outputs;
   }
     where
-      earlier : (v : ℕ) → member v (ids (with_kinds (fuse_kind (spot g.outputs q) k) g.vertices)) ≡ true → Live g v
+      earlier : (v : ℕ) → member v (ids (with_kinds (fuse_kind (spot g.outputs q) k) g.vertices)) ≡ true → IsVertex g v
       earlier v t = sym (ap (member v) (ids-with_kinds (fuse_kind (spot g.outputs q) k) g.vertices)) ∙ t
 
-      earlier_too : (v : ℕ) → member v (ids (with_kinds (fuse_kind (spot h.outputs q) k) h.vertices)) ≡ true → Live h v
+      earlier_too : (v : ℕ) → member v (ids (with_kinds (fuse_kind (spot h.outputs q) k) h.vertices)) ≡ true → IsVertex h v
       earlier_too v t = sym (ap (member v) (ids-with_kinds (fuse_kind (spot h.outputs q) k) h.vertices)) ∙ t
 
   pub edge_renamed : (new new' p q : ℕ) → member new (ids g.vertices) ≡ false → member new' (ids h.vertices) ≡ false → IsOnQubits (length g.outputs) (Cz p q) →
@@ -230,10 +229,10 @@ module _ (to back : ℕ → ℕ) (g h : Graph) (wg : WellFormed g) (wh : WellFor
       after : IsPlaced new' h.outputs (Cz p q) h (placed new' h (Cz p q))
       after = placed_is h wh new' (Cz p q) fresh' (subst (λ n. IsOnQubits n (Cz p q)) (sym same_length) on)
 
-      at : (r v : ℕ) → r < length g.outputs → Live g v → eqb (to v) (spot h.outputs r) ≡ eqb v (spot g.outputs r)
+      at : (r v : ℕ) → r < length g.outputs → IsVertex g v → eqb (to v) (spot h.outputs r) ≡ eqb v (spot g.outputs r)
       at r v lt t = ap (eqb (to v)) (spot_named r lt) ∙ eqb-named to back g h wg wh R v (spot g.outputs r) t (spot_live g wg r lt)
 
-      pair : (v w : ℕ) → Live g v → Live g w → is_pair (spot h.outputs p) (spot h.outputs q) (to v) (to w) ≡ is_pair (spot g.outputs p) (spot g.outputs q) v w
+      pair : (v w : ℕ) → IsVertex g v → IsVertex g w → is_pair (spot h.outputs p) (spot h.outputs q) (to v) (to w) ≡ is_pair (spot g.outputs p) (spot g.outputs q) v w
       pair v w t s =
           ap₂ (λ a c. a || c) (ap₂ (λ a c. a && c) (at p v on.0 t) (at q w on.1 s)) (ap₂ (λ a c. a && c) (at q v on.1 t) (at p w on.0 s))
 
@@ -250,7 +249,7 @@ module _ (to back : ℕ → ℕ) (g h : Graph) (wg : WellFormed g) (wh : WellFor
         ∙ ap (renamed_ends (with_name (new_vertex g) (new_vertex h) to)) (sym c.outputs)),
   )
     where
-      there : Live g b
+      there : IsVertex g b
       there = end_there g wg b g.inputs wg.inputs.there c.has_input
 
       step : IsSplitInput h (to b) (new_vertex h) (split_input_graph h (to b) (new_vertex h))

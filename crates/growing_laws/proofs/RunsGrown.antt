@@ -10,8 +10,8 @@ use Rattle.zx_model.specs.Scalar.{numerator, denominator}
 use Rattle.zx_model.specs.Number.{root_power}
 use Rattle.zx_model.specs.declared.scalar.Scalar.{Scalar}
 use Rattle.zx_model.proofs.Ring.{mul_assoc, mul_left_comm, one-mul}
-use Rattle.zx_calculus.specs.Graph.{Graph, ids, Live, WellFormed}
-use Rattle.zx_calculus.specs.Sum.{sum}
+use Rattle.zx_calculus.specs.Graph.{Graph, ids, IsVertex, WellFormed}
+use Rattle.zx_calculus.specs.Sum.{graph_sum}
 use Rattle.zx_calculus.specs.Counts.{odd_phases}
 use Rattle.zx_calculus.specs.StepScalars.{IsSumTimes}
 use Rattle.zx_calculus.specs.Steps.{Step, IsRun}
@@ -46,7 +46,7 @@ run_outputs g (s ∷ steps) h none run =
     run_outputs run.0 steps h (and-right _ _ none) run.2 ∙ (step_frame g s run.0 (not-true (is_split s) (and-left _ _ none)) run.1).outputs
 
 -- what is a vertex was one
-run_live : (g : Graph) (steps : List Step) (h : Graph) → SplitNothing steps → IsRun g steps h → (v : ℕ) → Live h v → Live g v
+run_live : (g : Graph) (steps : List Step) (h : Graph) → SplitNothing steps → IsRun g steps h → (v : ℕ) → IsVertex h v → IsVertex g v
 run_live g [] h none same v there = ap (λ (k : Graph). member v (ids k.vertices)) same ∙ there
 run_live g (s ∷ steps) h none run v there =
     let no_split : is_split s ≡ false = not-true (is_split s) (and-left _ _ none) in
@@ -116,10 +116,10 @@ grown_peels new n g (gate ∷ gates) r basic on =
 
 -- ---- exact scalars stay where the same gates follow
 times_followed : (g : Graph) (c : Number) (f : List Bool → Number) (x : List Bool) →
-    mul c (followed g f x) ≡ total (map (λ y. mul (mul c (sum g x y)) (f y)) (all_labels (length g.outputs)))
+    mul c (followed g f x) ≡ total (map (λ y. mul (mul c (graph_sum g x y)) (f y)) (all_labels (length g.outputs)))
 times_followed g c f x =
-    sym (total-map_mul c (λ y. mul (sum g x y) (f y)) (all_labels (length g.outputs)))
-    ∙ ap (λ (e : List Bool → Number). total (map e (all_labels (length g.outputs)))) (λ i y. sym (mul_assoc c (sum g x y) (f y)) i)
+    sym (total-map_mul c (λ y. mul (graph_sum g x y) (f y)) (all_labels (length g.outputs)))
+    ∙ ap (λ (e : List Bool → Number). total (map e (all_labels (length g.outputs)))) (λ i y. sym (mul_assoc c (graph_sum g x y) (f y)) i)
 
 module _ (g h : Graph) (s : Scalar) (outputs : length h.outputs ≡ length g.outputs) (scaled : IsSumTimes g s h) where
   left : Number
@@ -133,7 +133,7 @@ module _ (g h : Graph) (s : Scalar) (outputs : length h.outputs ≡ length g.out
   followed_scaled f x l =
       times_followed g left f x
       ∙ total_same (length g.outputs) _ _ (λ y m. ap (λ e. mul e (f y)) (scaled x y l m))
-      ∙ ap (λ n. total (map (λ y. mul (mul right (sum h x y)) (f y)) (all_labels n))) (sym outputs)
+      ∙ ap (λ n. total (map (λ y. mul (mul right (graph_sum h x y)) (f y)) (all_labels n))) (sym outputs)
       ∙ sym (times_followed h right f x)
 
   pub scaled_behind : (c : Number) (gates : List Gate) (k l : Graph) → PeelsAt c k gates g → PeelsAt c l gates h → IsSumTimes k s l

@@ -3,7 +3,7 @@ use Rattle.std.proofs.Common.{◌≡◌, ◌≢◌, ◌⊎◌, refl, sym, ◌∙
 use Rattle.std.specs.List.{list_all}
 use Rattle.zx_model.specs.Bits.{member, one_if}
 use Rattle.zx_model.specs.Phase.{is_odd, IsOdd}
-use Rattle.zx_calculus.specs.Graph.{XY, YZ, Vertex, End, Graph, ids, joined, kind_of, plane_of, neighbours, end_vertices, without, Live, Distinct, WellFormed}
+use Rattle.zx_calculus.specs.Graph.{XY, YZ, Vertex, End, Graph, ids, joined, kind_of, plane_of, neighbours, end_vertices, without, IsVertex, Distinct, WellFormed}
 use Rattle.zx_calculus.specs.Counts.{odd_phases}
 use Rattle.zx_calculus.specs.Reduced.{IsReduced}
 use Rattle.zx_calculus.proofs.CountLemmas.{Test, count, count-cons, count_front, member-without_other}
@@ -96,14 +96,14 @@ length-filter_ids near (v ∷ vs) =
     by_test (near v.id) (λ t. rw t (ap (λ n. suc n) (length-filter_ids near vs))) (λ f. rw f (length-filter_ids near vs))
 
 module _ (to back : ℕ → ℕ) (g h : Graph) (wg : WellFormed g) (wh : WellFormed h) (R : IsRenamed to back g h) where
-  count-named : (t t' : Test) → ((v : ℕ) → Live g v → t' (to v) (kind_of h.vertices (to v)) ≡ t v (kind_of g.vertices v)) → count t' h.vertices ≡ count t g.vertices
+  count-named : (t t' : Test) → ((v : ℕ) → IsVertex g v → t' (to v) (kind_of h.vertices (to v)) ≡ t v (kind_of g.vertices v)) → count t' h.vertices ≡ count t g.vertices
   count-named t t' kinds =
       count-renamed t t' to back g.vertices h.vertices (distinct g wg) (distinct h wh) R.there R.there_back R.same R.same_back kinds
 
   pub odd_named : odd_phases h ≡ odd_phases g
   odd_named = count-named (λ p k. is_odd k.phase) (λ p k. is_odd k.phase) (λ v t. ap is_odd (phase to back g h wg wh R v t))
 
-  legs-named : (u : ℕ) → Live g u → length (neighbours h (to u)) ≡ length (neighbours g u)
+  legs-named : (u : ℕ) → IsVertex g u → length (neighbours h (to u)) ≡ length (neighbours g u)
   legs-named u t =
       length-filter_ids (joined h.edges (to u)) h.vertices
       ∙ count-named (λ p k. joined g.edges u p) (λ p k. joined h.edges (to u) p) (λ v s. R.edges u v t s)
@@ -112,17 +112,17 @@ module _ (to back : ℕ → ℕ) (g h : Graph) (wg : WellFormed g) (wh : WellFor
   R' : IsRenamed back to h g
   R' = named_back to back g h wg R
 
-  old_plane : (u : ℕ) → Live h u → plane_of g (back u) ≡ plane_of h u
+  old_plane : (u : ℕ) → IsVertex h u → plane_of g (back u) ≡ plane_of h u
   old_plane u t = plane back to h g wh wg R' u t
 
   -- neighbours of u and v in g are equal where they are in h
-  same_row : (u v : ℕ) → Live h u → Live h v → neighbours h u ≡ neighbours h v → (p : ℕ) → joined g.edges (back u) p ≡ joined g.edges (back v) p
+  same_row : (u v : ℕ) → IsVertex h u → IsVertex h v → neighbours h u ≡ neighbours h v → (p : ℕ) → joined g.edges (back u) p ≡ joined g.edges (back v) p
   same_row u v t s e p =
       by_test (member p (ids g.vertices))
       (λ m. old u t p m ∙ sym (member-neighbours h u (to p) wh) ∙ ap (member (to p)) e ∙ member-neighbours h v (to p) wh ∙ sym (old v s p m))
       (λ f. absent_right g wg (back u) p f ∙ sym (absent_right g wg (back v) p f))
     where
-      old : (w : ℕ) → Live h w → (p : ℕ) → Live g p → joined g.edges (back w) p ≡ joined h.edges w (to p)
+      old : (w : ℕ) → IsVertex h w → (p : ℕ) → IsVertex g p → joined g.edges (back w) p ≡ joined h.edges w (to p)
       old w t p m = sym (R.edges (back w) p (R.there_back w t) m) ∙ ap (λ x. joined h.edges x (to p)) (R.same_back w t)
 
   pub reduced_named : IsReduced g → IsReduced h

@@ -2,7 +2,7 @@
 use Rattle.std.proofs.Common.{◌≡◌, refl, sym, ◌∙◌, ◌≢◌, ap, ap₂, subst, ℕ, Bool, true, false, cond, not, ◌&&◌, ◌||◌, eqb, ne_eqb, List, [], ◌∷◌, length, true≢false}
 use Rattle.zx_model.specs.Bits.{member, xor}
 use Rattle.zx_model.specs.Phase.{half_turn}
-use Rattle.zx_calculus.specs.Graph.{Graph, Kind, Vertex, with_kinds, without, ids, joined, plane_of, phase_of, is_XY, is_XZ, Live, WellFormed}
+use Rattle.zx_calculus.specs.Graph.{Graph, Kind, Vertex, with_kinds, without, ids, joined, plane_of, phase_of, is_XY, is_XZ, IsVertex, WellFormed}
 use Rattle.zx_calculus.specs.Gadgets.{first_of_list, IsFuseInto}
 use Rattle.zx_calculus.specs.Steps.{Step, IsStep, IsRun, LocalComplement, Delete, Pivot, SplitInput, SplitOutput, DropLone, FuseInto, FuseTwin}
 use Rattle.zx_calculus.proofs.Gadgets.{neighbours_into}
@@ -28,11 +28,11 @@ use Rattle.growing_laws.proofs.StepsPlaced.{plane, phase, row, near, off_plane, 
 module _ (new : ℕ) (gate : Gate) (g k : Graph) (w : WellFormed g) (fresh : member new (ids g.vertices) ≡ false)
     (on : IsOnQubits (length g.outputs) gate) (P : IsPlaced new g.outputs gate g k) where
   -- the plane matters at a vertex alone
-  at_vertex : (near : Bool) (test : ℕ → Graph → Bool) (v : ℕ) → (Live g v → test v k ≡ test v g) → (member v (ids g.vertices) ≡ false → near ≡ false) →
+  at_vertex : (near : Bool) (test : ℕ → Graph → Bool) (v : ℕ) → (IsVertex g v → test v k ≡ test v g) → (member v (ids g.vertices) ≡ false → near ≡ false) →
       (near && test v k) ≡ (near && test v g)
   at_vertex near test v same none = by_test (member v (ids g.vertices)) (λ t. ap (λ b. near && b) (same t)) (λ f. rw (none f) refl)
 
-  is_near : (u v : ℕ) → Live g u → member v (ids g.vertices) ≡ false → (eqb v u || joined g.edges u v) ≡ false
+  is_near : (u v : ℕ) → IsVertex g u → member v (ids g.vertices) ≡ false → (eqb v u || joined g.edges u v) ≡ false
   is_near u v there f =
       rw (ne_eqb v u (λ e. true≢false (sym there ∙ ap (λ x. member x (ids g.vertices)) (sym e) ∙ f)), absent_right g w u v f) refl
 
@@ -97,10 +97,10 @@ carried_placed new g (s ∷ steps) h gate w none fresh on run spot =
 
 -- ---- other names
 module _ (to back : ℕ → ℕ) (g h : Graph) (wg : WellFormed g) (wh : WellFormed h) (R : IsRenamed to back g h) where
-  same : (v u : ℕ) → Live g v → Live g u → eqb (to v) (to u) ≡ eqb v u
+  same : (v u : ℕ) → IsVertex g v → IsVertex g u → eqb (to v) (to u) ≡ eqb v u
   same v u t s = eqb-named to back g h wg wh R v u t s
 
-  negates-named : (s : Step) (k : Graph) → is_split s ≡ false → IsStep g s k → (v : ℕ) → Live g v → negates h (renamed_step to s) (to v) ≡ negates g s v
+  negates-named : (s : Step) (k : Graph) → is_split s ≡ false → IsStep g s k → (v : ℕ) → IsVertex g v → negates h (renamed_step to s) (to v) ≡ negates g s v
   negates-named (LocalComplement u) k none c v t =
       ap₂ (λ e j. (e || j) && is_XZ (plane_of h (to v))) (same v u t c.there) (R.edges u v c.there t)
       ∙ ap (λ p. (eqb v u || joined g.edges u v) && is_XZ p) (plane-named to back g h wg wh R v t)
@@ -124,7 +124,7 @@ module _ (to back : ℕ → ℕ) (g h : Graph) (wg : WellFormed g) (wh : WellFor
   by_name true f a b q = rw q refl
   by_name false f a b q = rw q refl
 
-  holder-named : (left : ℕ) (s : Step) (k : Graph) → is_split s ≡ false → IsStep g s k → (v : ℕ) → Live g v →
+  holder-named : (left : ℕ) (s : Step) (k : Graph) → is_split s ≡ false → IsStep g s k → (v : ℕ) → IsVertex g v →
       holder_after left h (renamed_step to s) (to v) ≡ named_holder to (holder_after left g s v)
   holder-named left (LocalComplement u) k none c v t = refl
   holder-named left (Delete u) k none c v t = by_name (eqb v u) (eqb (to v) (to u)) (Deleted left) (At v) (same v u t c.deletable.there)
@@ -155,7 +155,7 @@ still_in f vs ws v is t = ap (λ us. member v (ids us)) is ∙ ap (member v) (id
 stays_in : (v u : ℕ) (vs : List Vertex) → eqb v u ≡ false → member v (ids vs) ≡ true → member v (ids (without u vs)) ≡ true
 stays_in v u vs other t = member-without_other v u vs (λ e. true≢false (sym (eqb-self v) ∙ ap (eqb v) e ∙ other)) ∙ t
 
-pub holder_lives : (left : ℕ) (g : Graph) (s : Step) (k : Graph) → is_split s ≡ false → WellFormed g → IsStep g s k → (v : ℕ) → Live g v → LivesIn k (holder_after left g s v)
+pub holder_lives : (left : ℕ) (g : Graph) (s : Step) (k : Graph) → is_split s ≡ false → WellFormed g → IsStep g s k → (v : ℕ) → IsVertex g v → LivesIn k (holder_after left g s v)
 holder_lives left g (LocalComplement u) k none w c v t = still_in _ g.vertices k.vertices v c.vertices t
 holder_lives left g (Delete u) k none w c v t =
     by_test (eqb v u) (λ e. rw e tt) (λ f. rw f (still_in _ (without u g.vertices) k.vertices v c.vertices (stays_in v u g.vertices f t)))
@@ -170,7 +170,7 @@ holder_lives left g (FuseInto u) k none w c v t =
     (here c.into (λ q. no_self c q) c.into_there))
     (λ f. rw f (here v (λ q. true≢false (sym (eqb-self v) ∙ ap (eqb v) q ∙ f)) t))
   where
-    here : (p : ℕ) → p ≢ u → Live g p → Live k p
+    here : (p : ℕ) → p ≢ u → IsVertex g p → IsVertex k p
     here p other there = still_in _ (without u g.vertices) k.vertices p c.vertices (member-without_other p u g.vertices other ∙ there)
 
     no_self : (c : IsFuseInto g u k) → c.into ≢ u
@@ -180,5 +180,5 @@ holder_lives left g (FuseTwin u x) k none w c v t =
     (λ e. subst (LivesIn k) (sym (ap (λ b. cond b (At u) (At v)) e)) (here u c.different c.there))
     (λ f. rw f (here v (λ q. true≢false (sym (eqb-self v) ∙ ap (eqb v) q ∙ f)) t))
   where
-    here : (p : ℕ) → p ≢ x → Live g p → Live k p
+    here : (p : ℕ) → p ≢ x → IsVertex g p → IsVertex k p
     here p other there = still_in _ (without x g.vertices) k.vertices p c.vertices (member-without_other p x g.vertices other ∙ there)

@@ -4,7 +4,7 @@ use Rattle.std.specs.List.{All}
 use Rattle.std.proofs.lemmas.List.Folds.{list_all-append}
 use Rattle.zx_model.specs.Bits.{member, xor}
 use Rattle.zx_model.specs.Phase.{half_turn}
-use Rattle.zx_calculus.specs.Graph.{XY, YZ, Graph, Vertex, End, ids, plane_of, phase_of, joined, is_XZ, is_XY, end_vertices, insert_vertex, Live, WellFormed}
+use Rattle.zx_calculus.specs.Graph.{XY, YZ, Graph, Vertex, End, ids, plane_of, phase_of, joined, is_XZ, is_XY, end_vertices, insert_vertex, IsVertex, WellFormed}
 use Rattle.zx_calculus.specs.Splits.{spider_of_phase_zero, new_vertex}
 use Rattle.zx_calculus.specs.Steps.{Step, IsStep, IsRun, LocalComplement, Delete, Pivot, SplitInput, SplitOutput, DropLone, FuseInto, FuseTwin}
 use Rattle.zx_calculus.proofs.Booleans.{xor-false, and-false}
@@ -16,7 +16,7 @@ use Rattle.zx_calculus.proofs.Vertices.{member-insert}
 use Rattle.move_laws.specs.Orders.{is_split}
 use Rattle.zx_gates.specs.Circuit.{IsOnQubits}
 use Rattle.zx_gates.specs.declared.gate.Gate.{Gate}
-use Rattle.circuit_graph.specs.Translation.{present}
+use Rattle.circuit_graph.specs.Translation.{last_spider}
 use Rattle.teleport_laws.specs.Shifts.{negates, into_of}
 use Rattle.teleport_laws.specs.Spots.{Holder, At, Deleted, Dropped, Spot, spot_at, holder_after, spot_after, moved, carried}
 use Rattle.teleport_laws.specs.Groups.{same_holder, is_dropped, teleported}
@@ -56,7 +56,7 @@ added_in v new vs ws is there =
     later true t = refl
     later false t = t
 
-holder_stays : (left : ℕ) (g : Graph) (s : Step) (k : Graph) → WellFormed g → IsStep g s k → (v : ℕ) → Live g v → LivesIn k (holder_after left g s v)
+holder_stays : (left : ℕ) (g : Graph) (s : Step) (k : Graph) → WellFormed g → IsStep g s k → (v : ℕ) → IsVertex g v → LivesIn k (holder_after left g s v)
 holder_stays left g (LocalComplement u) k w c v there = holder_lives left g (LocalComplement u) k refl w c v there
 holder_stays left g (Delete u) k w c v there = holder_lives left g (Delete u) k refl w c v there
 holder_stays left g (Pivot u x) k w c v there = holder_lives left g (Pivot u x) k refl w c v there
@@ -102,7 +102,7 @@ module _ (to back : ℕ → ℕ) (g h : Graph) (R : IsRenamed to back g h) where
   spot_back : (spot : Spot) → LivesIn g spot.holder → named_spot back (named_spot to spot) ≡ spot
   spot_back spot there = λ i. record { holder = holder_back spot.holder there i; negated = spot.negated }
 
-named-same : (g : Graph) (to later : ℕ → ℕ) → ((v : ℕ) → Live g v → later v ≡ to v) → (spot : Spot) → LivesIn g spot.holder → named_spot later spot ≡ named_spot to spot
+named-same : (g : Graph) (to later : ℕ → ℕ) → ((v : ℕ) → IsVertex g v → later v ≡ to v) → (spot : Spot) → LivesIn g spot.holder → named_spot later spot ≡ named_spot to spot
 named-same g to later same spot there = λ i. record { holder = at spot.holder there i; negated = spot.negated }
   where
     at : (holder : Holder) → LivesIn g holder → named_holder later holder ≡ named_holder to holder
@@ -295,7 +295,7 @@ module _ (n : ℕ) (gates : List Gate) (on : All (IsOnQubits n) gates) where
       run = run_placed (ids_after n gates) (graph_of_gates n gates) c.reaches.steps c.reaches.graph gate (base_growing n gates on).well_formed c.no_split free here_on c.reaches.run
 
       names : (to' : ℕ → ℕ) × (back' : ℕ → ℕ) × IsRenamed to' back' (placed (ids_after n gates) c.reaches.graph gate) (placed new h gate)
-          × ((v : ℕ) → Live c.reaches.graph v → to' v ≡ c.reaches.to v)
+          × ((v : ℕ) → IsVertex c.reaches.graph v → to' v ≡ c.reaches.to v)
       names = gate_renamed n gates on c.reaches.to c.reaches.back c.reaches.graph h (ids_after n gates) new gate (reached n gates on h c) w fresh c.reaches.renamed basic here
 
       same : (v : ℕ) → carried (placed (ids_after n gates) (graph_of_gates n gates) gate) c.reaches.steps (placed (ids_after n gates) c.reaches.graph gate) run (spot_at v)
@@ -357,8 +357,8 @@ output_stays g (s ∷ steps) h run w none v out =
 
 -- what is at an output of the graph of the gates is at that of the graph that is reached
 pub record IsAtOutput (g h : Graph) (r : Reaches g h) (q : ℕ) : Type 0 where
-  pub lives : LivesIn r.graph (run_spot g h r (present g q)).holder
-  pub spot : reached_spot g h r (present g q) ≡ spot_at (present h q)
+  pub lives : LivesIn r.graph (run_spot g h r (last_spider g q)).holder
+  pub spot : reached_spot g h r (last_spider g q) ≡ spot_at (last_spider h q)
 
 get_or-named : (to : ℕ → ℕ) (es : List End) (q : ℕ) → q < length es → get_or (end_vertices (renamed_ends to es)) q 0 ≡ to (get_or (end_vertices es) q 0)
 get_or-named to [] q within = absurd (omega (arith, within))
@@ -373,18 +373,18 @@ reached_output g h w r none q within = record {
 }
   where
     v : ℕ
-    v = present g q
+    v = last_spider g q
 
-    out : member (present g q) (end_vertices g.outputs) ≡ true
+    out : member (last_spider g q) (end_vertices g.outputs) ≡ true
     out = spot_there g.outputs q within
 
     outputs : r.graph.outputs ≡ g.outputs
     outputs = run_outputs g r.steps r.graph none r.run
 
-    stays : run_spot g h r (present g q) ≡ spot_at (present g q)
-    stays = output_stays g r.steps r.graph r.run w none (present g q) out
+    stays : run_spot g h r (last_spider g q) ≡ spot_at (last_spider g q)
+    stays = output_stays g r.steps r.graph r.run w none (last_spider g q) out
 
-    there : present h q ≡ r.to (present g q)
+    there : last_spider h q ≡ r.to (last_spider g q)
     there =
         ap (λ es. get_or (end_vertices es) q 0) (r.renamed.outputs ∙ ap (renamed_ends r.to) outputs)
         ∙ get_or-named r.to g.outputs q within

@@ -2,7 +2,7 @@
 use Rattle.std.proofs.Common.{◌≡◌, ◌≢◌, refl, sym, ◌∙◌, ap, ap₂, subst, true≢false, ℕ, Bool, true, false, cond, ◌&&◌, eqb, ne_eqb, ltb, arith, pos, negsuc, List, [], ◌∷◌, length, filter}
 use Rattle.zx_model.specs.Phase.{half_turn, quarter_turn, sum_of_phases}
 use Rattle.zx_model.specs.Bits.{xor, member}
-use Rattle.zx_calculus.specs.Graph.{XY, YZ, Kind, Vertex, End, Graph, ids, joined, kind_of, plane_of, phase_of, neighbours, end_vertices, insert_vertex, with_kinds, without, Live, Interior, WellFormed}
+use Rattle.zx_calculus.specs.Graph.{XY, YZ, Kind, Vertex, End, Graph, ids, joined, kind_of, plane_of, phase_of, neighbours, end_vertices, insert_vertex, with_kinds, without, IsVertex, Interior, WellFormed}
 use Rattle.zx_calculus.specs.Edits.{KeepsEnds}
 use Rattle.zx_calculus.specs.Turns.{in_plane, with_phase_added, quarter_turned, half_turned}
 use Rattle.zx_calculus.specs.Complements.{IsLocalComplement, complement_kind, complement_scalar, complement_scalar_in}
@@ -98,29 +98,29 @@ no_half_power kind e = ap (λ plane. half_power_in plane kind.phase) e
 
 module _ (new : ℕ) (gate : Gate) (g k : Graph) (w : WellFormed g) (fresh : member new (ids g.vertices) ≡ false)
     (on : IsOnQubits (length g.outputs) gate) (P : IsPlaced new g.outputs gate g k) where
-  not_new : (u : ℕ) → Live g u → u ≢ new
+  not_new : (u : ℕ) → IsVertex g u → u ≢ new
   not_new u there = apart_of_member u new (ids g.vertices) there fresh
 
-  pub live : (u : ℕ) → Live g u → Live k u
+  pub live : (u : ℕ) → IsVertex g u → IsVertex k u
   live u there = ap (λ vs. member u (ids vs)) P.vertices ∙ extended_live new g.outputs gate g.vertices u there
 
-  inside : (u : ℕ) → Live g u → Interior g u → Interior k u
+  inside : (u : ℕ) → IsVertex g u → Interior g u → Interior k u
   inside u there inner = record {
     no_input = ap (λ es. member u (end_vertices es)) P.inputs ∙ inner.no_input;
     no_output = ap (λ es. member u (end_vertices es)) P.outputs ∙ moved_none new g.outputs gate u inner.no_output (not_new u there);
   }
 
-  pub plane : (u : ℕ) → Live g u → plane_of k u ≡ plane_of g u
+  pub plane : (u : ℕ) → IsVertex g u → plane_of k u ≡ plane_of g u
   plane u there = ap (λ vs. (kind_of vs u).plane) P.vertices ∙ extended_plane new g.outputs gate g.vertices u (not_new u there) there
 
-  kind : (u : ℕ) → Live g u → member u (end_vertices g.outputs) ≡ false → kind_of k.vertices u ≡ kind_of g.vertices u
+  kind : (u : ℕ) → IsVertex g u → member u (end_vertices g.outputs) ≡ false → kind_of k.vertices u ≡ kind_of g.vertices u
   kind u there no_output =
       ap (λ vs. kind_of vs u) P.vertices ∙ extended_kind new g.outputs gate g.vertices u on no_output (not_new u there) there
 
-  pub phase : (u : ℕ) → Live g u → Interior g u → phase_of k u ≡ phase_of g u
+  pub phase : (u : ℕ) → IsVertex g u → Interior g u → phase_of k u ≡ phase_of g u
   phase u there inner = ap (λ (x : Kind). x.phase) (kind u there inner.no_output)
 
-  pub row : (u : ℕ) → Live g u → Interior g u → (p : ℕ) → joined k.edges u p ≡ joined g.edges u p
+  pub row : (u : ℕ) → IsVertex g u → Interior g u → (p : ℕ) → joined k.edges u p ≡ joined g.edges u p
   row u there inner p =
       P.edges u p ∙ ap (xor (joined g.edges u p)) (added_none new g.outputs gate u p on inner.no_output (not_new u there)) ∙ xor-false (joined g.edges u p)
 
@@ -135,35 +135,35 @@ module _ (new : ℕ) (gate : Gate) (g k : Graph) (w : WellFormed g) (fresh : mem
   off_YZ u e = off_plane u (YZ_apart _ e)
 
   -- ---- the exact scalars
-  pub near : (u : ℕ) → Live g u → Interior g u → neighbours k u ≡ neighbours g u
+  pub near : (u : ℕ) → IsVertex g u → Interior g u → neighbours k u ≡ neighbours g u
   near u there inner =
       ap (λ (test : ℕ → Bool). filter test (ids k.vertices)) (λ i p. row u there inner p i)
       ∙ ap (λ vs. filter (joined g.edges u) (ids vs)) P.vertices
       ∙ extended_filter new g.outputs gate g.vertices (joined g.edges u) (not_near u)
 
   -- a power that XY vertices don't have
-  power : (cost : Kind → ℕ) → ((x : Kind) → x.plane ≡ XY → cost x ≡ 0) → (p : ℕ) → Live g p →
+  power : (cost : Kind → ℕ) → ((x : Kind) → x.plane ≡ XY → cost x ≡ 0) → (p : ℕ) → IsVertex g p →
       cost (kind_of k.vertices p) ≡ cost (kind_of g.vertices p)
   power cost none p there =
       by_test (member p (end_vertices g.outputs))
       (λ t. none (kind_of k.vertices p) (plane p there ∙ output_XY g w p t) ∙ sym (none (kind_of g.vertices p) (output_XY g w p t)))
       (λ f. ap cost (kind p there f))
 
-  complement_scalar_same : (u : ℕ) → Live g u → Interior g u → complement_scalar k u ≡ complement_scalar g u
+  complement_scalar_same : (u : ℕ) → IsVertex g u → Interior g u → complement_scalar k u ≡ complement_scalar g u
   complement_scalar_same u there inner =
       ap₂ (λ (x : Kind) n. product_of_scalars (complement_scalar_in x.plane x.phase) (turn_by n)) (kind u there inner.no_output)
       (ap (quarter_powers k) (near u there inner)
       ∙ powers_same (λ p. quarter_power (kind_of k.vertices p)) (λ p. quarter_power (kind_of g.vertices p)) (neighbours g u)
       (λ p m. power quarter_power no_quarter_power p (neighbour_live g u p m)))
 
-  delete_scalar_same : (u : ℕ) → Live g u → Interior g u → delete_scalar k u ≡ delete_scalar g u
+  delete_scalar_same : (u : ℕ) → IsVertex g u → Interior g u → delete_scalar k u ≡ delete_scalar g u
   delete_scalar_same u there inner =
       ap₂ (λ (x : Kind) n. cond (eqb x.phase half_turn) (product_of_scalars (delete_scalar_in x.plane) (turn_by n)) (root_of_two_to (pos 2))) (kind u there inner.no_output)
       (ap (half_powers k) (near u there inner)
       ∙ powers_same (λ p. half_power (kind_of k.vertices p)) (λ p. half_power (kind_of g.vertices p)) (neighbours g u)
       (λ p m. power half_power no_half_power p (neighbour_live g u p m)))
 
-  pivot_scalar_same : (u v : ℕ) → Live g u → Live g v → Interior g u → Interior g v → pivot_scalar k u v ≡ pivot_scalar g u v
+  pivot_scalar_same : (u v : ℕ) → IsVertex g u → IsVertex g v → Interior g u → Interior g v → pivot_scalar k u v ≡ pivot_scalar g u v
   pivot_scalar_same u v there there_too inner inner_too =
       ap₂ (λ (x : Kind × Kind) n. product_of_scalars (root_of_two_to (negsuc 1)) (product_of_scalars
       (product_of_scalars (pivot_scalar_in x.0.plane x.0.phase) (pivot_scalar_in x.1.plane x.1.phase)) (turn_by n)))
@@ -187,7 +187,7 @@ module _ (new : ℕ) (gate : Gate) (g k : Graph) (w : WellFormed g) (fresh : mem
     frame : KeepsEnds g h → KeepsEnds k l
     frame c = record { ordered = Q.ordered; inputs = Q.inputs ∙ c.inputs ∙ sym P.inputs; outputs = Q.outputs ∙ sym P.outputs }
 
-    row_after : (u : ℕ) → Live g u → Interior g u → (p : ℕ) → joined l.edges u p ≡ joined h.edges u p
+    row_after : (u : ℕ) → IsVertex g u → Interior g u → (p : ℕ) → joined l.edges u p ≡ joined h.edges u p
     row_after u there inner p =
         Q.edges u p ∙ ap (xor (joined h.edges u p)) (added_none new g.outputs gate u p on inner.no_output (not_new u there)) ∙ xor-false (joined h.edges u p)
 
@@ -200,10 +200,10 @@ module _ (new : ℕ) (gate : Gate) (g k : Graph) (w : WellFormed g) (fresh : mem
         ∙ extended_kinds new g.outputs gate g.vertices f on (distinct g w) (output_XY g w) c
         ∙ ap₂ with_kinds same (sym P.vertices)
 
-    gone : (u : ℕ) → Live g u → extended new g.outputs gate (without u g.vertices) ≡ without u k.vertices
+    gone : (u : ℕ) → IsVertex g u → extended new g.outputs gate (without u g.vertices) ≡ without u k.vertices
     gone u there = extended_without new g.outputs gate g.vertices u w.vertices_rising (not_new u there) ∙ ap (without u) (sym P.vertices)
 
-    changed_left : (f f' : ℕ → Kind → Kind) (u : ℕ) → f ≡ f' → Passes new g.outputs f → Live g u → Interior g u →
+    changed_left : (f f' : ℕ → Kind → Kind) (u : ℕ) → f ≡ f' → Passes new g.outputs f → IsVertex g u → Interior g u →
         h.vertices ≡ with_kinds f (without u g.vertices) → l.vertices ≡ with_kinds f' (without u k.vertices)
     changed_left f f' u same c there inner is =
         Q.vertices ∙ ap (extended new g.outputs gate) is
@@ -229,7 +229,7 @@ module _ (new : ℕ) (gate : Gate) (g k : Graph) (w : WellFormed g) (fresh : mem
 
     delete : (u : ℕ) → IsDelete g u h → IsDelete k u l
     delete u c =
-        let there : Live g u = c.deletable.there in
+        let there : IsVertex g u = c.deletable.there in
         let inner : Interior g u = off_plane u c.deletable.plane in
         record {
           deletable = record {

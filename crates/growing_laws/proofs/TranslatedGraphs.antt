@@ -7,11 +7,10 @@ use Rattle.std.proofs.lemmas.List.FromFn.{length-map-range_with_len}
 use Rattle.std.proofs.lemmas.Grind.{flat_map-append}
 use Rattle.zx_model.specs.Phase.{half_turn}
 use Rattle.zx_model.specs.declared.scalar.Scalar.{Scalar}
-use Rattle.zx_calculus.specs.Graph.{Graph}
+use Rattle.zx_calculus.specs.Graph.{Graph, plain}
 use Rattle.zx_calculus.specs.Splits.{spider_of_phase_zero}
 use Rattle.zx_calculus.specs.StepScalars.{IsSumTimes}
 use Rattle.zx_calculus.specs.Steps.{Step, IsRun}
-use Rattle.zx_calculus.specs.Worked.{plain}
 use Rattle.zx_gates.specs.Circuit.{Circuit, IsOnQubits}
 use Rattle.zx_gates.specs.Counting.{is_h, is_cx, is_not}
 use Rattle.zx_gates.specs.declared.gate.Gate.{Gate}

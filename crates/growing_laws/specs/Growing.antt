@@ -4,7 +4,7 @@
 use Rattle.std.specs.Prelude.{◌≡◌, ◌+◌, ◌<◌, ℕ, true, false, not, List, [], ◌∷◌, ◌++◌, length}
 use Rattle.std.specs.List.{All, list_all}
 use Rattle.zx_model.specs.Bits.{member}
-use Rattle.zx_calculus.specs.Graph.{Graph, ids, Live, WellFormed}
+use Rattle.zx_calculus.specs.Graph.{Graph, ids, IsVertex, WellFormed}
 use Rattle.zx_calculus.specs.Steps.{Step}
 use Rattle.move_laws.specs.Orders.{is_split}
 use Rattle.zx_gates.specs.Circuit.{Circuit, IsOnQubits}
@@ -41,7 +41,7 @@ IsFree new g = member new (ids g.vertices) ≡ false
 
 -- every vertex has an id below this one
 abbrev pub AreBelow : ℕ → Graph → Type 0
-AreBelow new g = (v : ℕ) → Live g v → v < new
+AreBelow new g = (v : ℕ) → IsVertex g v → v < new
 
 -- g can have gates put behind it: it is well-formed, has n outputs, all plain, and no id from `new` on is taken
 pub record IsGrowing (new n : ℕ) (g : Graph) : Type 0 where

@@ -2,7 +2,7 @@
 -- Kissinger and van de Wetering, "Reducing the number of non-Clifford gates in quantum circuits" (Phys. Rev. A 102,
 -- 022406, 2020), on phase teleportation: phases that meet in one vertex are one phase.
 use Rattle.std.specs.Prelude.{ℕ}
-use Rattle.zx_calculus.specs.Graph.{Graph, Live}
+use Rattle.zx_calculus.specs.Graph.{Graph, IsVertex}
 use Rattle.teleport_laws.specs.Spots.{Holder, At, Deleted, Dropped, Spot, spot_at, carried}
 use Rattle.growing_laws.specs.Growth.{Reaches}
 
@@ -17,7 +17,7 @@ named_spot to spot = record { holder = named_holder to spot.holder; negated = sp
 
 -- a vertex that holds is one of the graph
 abbrev pub LivesIn : Graph → Holder → Type 0
-LivesIn g (At v) = Live g v
+LivesIn g (At v) = IsVertex g v
 LivesIn g (Deleted n) = Unit {0}
 LivesIn g Dropped = Unit {0}
 

@@ -1,6 +1,6 @@
 -- Graphs that differ in their ids alone: a new spider may have the id of a vertex that went.
 use Rattle.std.specs.Prelude.{◌≡◌, ℕ, List, map, if◌then◌else◌, ◌==◌}
-use Rattle.zx_calculus.specs.Graph.{End, Graph, kind_of, joined, Live, WellFormed}
+use Rattle.zx_calculus.specs.Graph.{End, Graph, kind_of, joined, IsVertex, WellFormed}
 use Rattle.zx_calculus.specs.Steps.{Step, LocalComplement, Delete, Pivot, SplitInput, SplitOutput, DropLone, FuseInto}
 use Rattle.zx_calculus.specs.Steps.{FuseTwin}
 
@@ -23,12 +23,12 @@ renamed_step to (FuseTwin u v) = FuseTwin (to u) (to v)
 
 -- h is g where each vertex v is called `to v`, and `back` gives the old name
 pub record IsRenamed (to back : ℕ → ℕ) (g h : Graph) : Type 0 where
-  pub there : (v : ℕ) → Live g v → Live h (to v)
-  pub there_back : (v : ℕ) → Live h v → Live g (back v)
-  pub same : (v : ℕ) → Live g v → back (to v) ≡ v
-  pub same_back : (v : ℕ) → Live h v → to (back v) ≡ v
-  pub kinds : (v : ℕ) → Live g v → kind_of h.vertices (to v) ≡ kind_of g.vertices v
-  pub edges : (v w : ℕ) → Live g v → Live g w → joined h.edges (to v) (to w) ≡ joined g.edges v w
+  pub there : (v : ℕ) → IsVertex g v → IsVertex h (to v)
+  pub there_back : (v : ℕ) → IsVertex h v → IsVertex g (back v)
+  pub same : (v : ℕ) → IsVertex g v → back (to v) ≡ v
+  pub same_back : (v : ℕ) → IsVertex h v → to (back v) ≡ v
+  pub kinds : (v : ℕ) → IsVertex g v → kind_of h.vertices (to v) ≡ kind_of g.vertices v
+  pub edges : (v w : ℕ) → IsVertex g v → IsVertex g w → joined h.edges (to v) (to w) ≡ joined g.edges v w
   pub inputs : h.inputs ≡ renamed_ends to g.inputs
   pub outputs : h.outputs ≡ renamed_ends to g.outputs
 

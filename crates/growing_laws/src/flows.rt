@@ -4,7 +4,7 @@ ghost use Rattle.std.specs.Prelude.{◌<◌, ◌≤◌, ℕ, suc, length};
 ghost use Rattle.zx_calculus.specs.Graph.{Graph};
 ghost use Rattle.zx_gates.specs.Circuit.{IsOnQubits};
 ghost use Rattle.move_laws.specs.Ranks.{HasFlowBy, ranked};
-ghost use Rattle.circuit_graph.specs.Translation.{present};
+ghost use Rattle.circuit_graph.specs.Translation.{last_spider};
 ghost use Rattle.growing_laws.specs.Growing.{TakesGates, placed};
 
 use zx_gates::Gate;
@@ -14,7 +14,7 @@ use zx_gates::Gate;
 pub fn gates_keep_a_flow_by_rank()
     ensures spider { (new : ℕ) (g : Graph) → TakesGates new g → (rank : ℕ → ℕ) (low high : ℕ) →
         HasFlowBy g rank low high → (q : ℕ) → q < length g.outputs → low ≤ high →
-        HasFlowBy (placed new g (Gate.H q)) (ranked (present g q) high rank) low (suc high) }
+        HasFlowBy (placed new g (Gate.H q)) (ranked (last_spider g q) high rank) low (suc high) }
     ensures phase { (new : ℕ) (g : Graph) → TakesGates new g → (rank : ℕ → ℕ) (low high : ℕ) →
         HasFlowBy g rank low high → (q k : ℕ) →
         HasFlowBy (placed new g (Gate.Phase q k)) rank low high }

@@ -14,7 +14,7 @@ use Rattle.zx_gates.specs.Maps.{Matrix, phase}
 use Rattle.zx_gates.proofs.WorkedLemmas.{on_one_qubit}
 use Rattle.qasm_angle.specs.declared.angle.Angle.{Angle}
 use Rattle.qasm_angle.specs.Ratio.{gcd, lowest, limited}
-use Rattle.qasm_angle.specs.Sixteenths.{phase_of}
+use Rattle.qasm_angle.specs.Sixteenths.{phase_of_angle}
 use Rattle.qasm_angle.specs.Literals.{literal_value, decimal}
 use Rattle.qasm_angle.specs.Values as values
 use Rattle.qasm_scope.specs.Angles.{angle_of}
@@ -99,68 +99,68 @@ unfolding add mul neg root_power add_cyclotomic mul_cyclotomic neg_cyclotomic
 rzz_certified = at_phases rzz_gates rotation_zz refl
 
 -- ---- the gates
-module _ (a : Angle) (k : ℕ) (e : phase_of a ≡ Some k) where
+module _ (a : Angle) (k : ℕ) (e : phase_of_angle a ≡ Some k) where
   u1_events : header_events (codes "u1") (a ∷ []) (0 ∷ []) ≡ Called 2 ∷ Applied (U 0 0 0 k) ∷ []
-  unfolding with_header angle_of values.applied gcd lowest limited phase_of literal_value decimal
+  unfolding with_header angle_of values.applied gcd lowest limited phase_of_angle literal_value decimal
   u1_events = ap (λ p. Called 2 ∷ (u_of 0 (Some 0) (Some 0) p ++ [])) e
 
   pub u1_map : HasMap (codes "u1") (a ∷ []) (0 ∷ []) (single (phase k))
   u1_map = has_map (comes u1_events refl) (unitary_map 0 0 k (phase k) two two_nonzero (about_z k))
 
   p_events : header_events (codes "p") (a ∷ []) (0 ∷ []) ≡ Called 2 ∷ Applied (U 0 0 0 k) ∷ []
-  unfolding with_header angle_of values.applied gcd lowest limited phase_of literal_value decimal
+  unfolding with_header angle_of values.applied gcd lowest limited phase_of_angle literal_value decimal
   p_events = ap (λ p. Called 2 ∷ (u_of 0 (Some 0) (Some 0) p ++ [])) e
 
   pub p_map : HasMap (codes "p") (a ∷ []) (0 ∷ []) (single (phase k))
   p_map = has_map (comes p_events refl) (unitary_map 0 0 k (phase k) two two_nonzero (about_z k))
 
   rz_events : header_events (codes "rz") (a ∷ []) (0 ∷ []) ≡ Called 2 ∷ Called 3 ∷ Applied (U 0 0 0 k) ∷ []
-  unfolding with_header angle_of values.applied gcd lowest limited phase_of literal_value decimal
+  unfolding with_header angle_of values.applied gcd lowest limited phase_of_angle literal_value decimal
   rz_events = ap (λ p. Called 2 ∷ ((Called 3 ∷ (u_of 0 (Some 0) (Some 0) p ++ [])) ++ [])) e
 
   pub rz_map : HasMap (codes "rz") (a ∷ []) (0 ∷ []) (single (rotation_z k))
   rz_map = has_map (comes rz_events refl) (unitary_map 0 0 k (phase k) two two_nonzero (about_z k))
 
   rx_events : header_events (codes "rx") (a ∷ []) (0 ∷ []) ≡ Called 2 ∷ Called 3 ∷ Applied (U 0 k (half_turn + quarter_turn) quarter_turn) ∷ []
-  unfolding with_header angle_of values.applied gcd lowest limited phase_of literal_value decimal
+  unfolding with_header angle_of values.applied gcd lowest limited phase_of_angle literal_value decimal
   rx_events = ap (λ p. Called 2 ∷ ((Called 3 ∷ (u_of 0 p (Some (half_turn + quarter_turn)) (Some quarter_turn) ++ [])) ++ [])) e
 
   pub rx_map : HasMap (codes "rx") (a ∷ []) (0 ∷ []) (single (rotation_x k))
   rx_map = has_map (comes rx_events refl) (unitary_map k (half_turn + quarter_turn) quarter_turn (rotation_x k) one one_nonzero (about_x k))
 
   ry_events : header_events (codes "ry") (a ∷ []) (0 ∷ []) ≡ Called 2 ∷ Called 3 ∷ Applied (U 0 k 0 0) ∷ []
-  unfolding with_header angle_of values.applied gcd lowest limited phase_of literal_value decimal
+  unfolding with_header angle_of values.applied gcd lowest limited phase_of_angle literal_value decimal
   ry_events = ap (λ p. Called 2 ∷ ((Called 3 ∷ (u_of 0 p (Some 0) (Some 0) ++ [])) ++ [])) e
 
   pub ry_map : HasMap (codes "ry") (a ∷ []) (0 ∷ []) (single (rotation_y k))
   ry_map = has_map (comes ry_events refl) (unitary_map k 0 0 (rotation_y k) one one_nonzero (about_y k))
 
   rzz_events : header_events (codes "rzz") (a ∷ []) (0 ∷ 1 ∷ []) ≡ Called 2 ∷ Called 3 ∷ Applied (Cx 0 1) ∷ Called 2 ∷ Called 3 ∷ Applied (U 1 0 0 k) ∷ Called 2 ∷ Called 3 ∷ Applied (Cx 0 1) ∷ []
-  unfolding with_header angle_of values.applied gcd lowest limited phase_of literal_value decimal
+  unfolding with_header angle_of values.applied gcd lowest limited phase_of_angle literal_value decimal
   rzz_events = ap (λ p. Called 2 ∷ Called 3 ∷ Applied (Cx 0 1) ∷ Called 2 ∷ ((Called 3 ∷ (u_of 1 (Some 0) (Some 0) p ++ [])) ++ Called 2 ∷ Called 3 ∷ Applied (Cx 0 1) ∷ [])) e
 
   pub rzz_map : HasMap (codes "rzz") (a ∷ []) (0 ∷ 1 ∷ []) (rotation_zz k)
   rzz_map = has_map (comes rzz_events refl) (certified (rzz_certified k (phase_below a k e)))
 
-module _ (a b : Angle) (j k : ℕ) (e : phase_of a ≡ Some j) (f : phase_of b ≡ Some k) where
+module _ (a b : Angle) (j k : ℕ) (e : phase_of_angle a ≡ Some j) (f : phase_of_angle b ≡ Some k) where
   u2_events : header_events (codes "u2") (a ∷ b ∷ []) (0 ∷ []) ≡ Called 2 ∷ Applied (U 0 quarter_turn j k) ∷ []
-  unfolding with_header angle_of values.applied gcd lowest limited phase_of literal_value decimal
+  unfolding with_header angle_of values.applied gcd lowest limited phase_of_angle literal_value decimal
   u2_events = ap₂ (λ p q. Called 2 ∷ (u_of 0 (Some quarter_turn) p q ++ [])) e f
 
   pub u2_map : HasMap (codes "u2") (a ∷ b ∷ []) (0 ∷ []) (single (three_rotations quarter_turn j k))
   u2_map = has_map (comes u2_events refl) (unitary_map quarter_turn j k (three_rotations quarter_turn j k) one one_nonzero (rotations quarter_turn j k))
 
-module _ (a b c : Angle) (i j k : ℕ) (e : phase_of a ≡ Some i) (f : phase_of b ≡ Some j) (g : phase_of c ≡ Some k) where
+module _ (a b c : Angle) (i j k : ℕ) (e : phase_of_angle a ≡ Some i) (f : phase_of_angle b ≡ Some j) (g : phase_of_angle c ≡ Some k) where
   u3_events : header_events (codes "u3") (a ∷ b ∷ c ∷ []) (0 ∷ []) ≡ Called 2 ∷ Applied (U 0 i j k) ∷ []
   unfolding with_header angle_of
-  u3_events = ap (λ p. Called 2 ∷ (u_of 0 p (phase_of b) (phase_of c) ++ [])) e ∙ ap₂ (λ p q. Called 2 ∷ (u_of 0 (Some i) p q ++ [])) f g
+  u3_events = ap (λ p. Called 2 ∷ (u_of 0 p (phase_of_angle b) (phase_of_angle c) ++ [])) e ∙ ap₂ (λ p q. Called 2 ∷ (u_of 0 (Some i) p q ++ [])) f g
 
   pub u3_map : HasMap (codes "u3") (a ∷ b ∷ c ∷ []) (0 ∷ []) (single (three_rotations i j k))
   u3_map = has_map (comes u3_events refl) (unitary_map i j k (three_rotations i j k) one one_nonzero (rotations i j k))
 
   u_events : header_events (codes "u") (a ∷ b ∷ c ∷ []) (0 ∷ []) ≡ Called 2 ∷ Applied (U 0 i j k) ∷ []
   unfolding with_header angle_of
-  u_events = ap (λ p. Called 2 ∷ (u_of 0 p (phase_of b) (phase_of c) ++ [])) e ∙ ap₂ (λ p q. Called 2 ∷ (u_of 0 (Some i) p q ++ [])) f g
+  u_events = ap (λ p. Called 2 ∷ (u_of 0 p (phase_of_angle b) (phase_of_angle c) ++ [])) e ∙ ap₂ (λ p q. Called 2 ∷ (u_of 0 (Some i) p q ++ [])) f g
 
   pub u_map : HasMap (codes "u") (a ∷ b ∷ c ∷ []) (0 ∷ []) (single (three_rotations i j k))
   u_map = has_map (comes u_events refl) (unitary_map i j k (three_rotations i j k) one one_nonzero (rotations i j k))

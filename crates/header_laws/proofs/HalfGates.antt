@@ -12,7 +12,7 @@ use Rattle.qasm_angle.specs.declared.angle.Angle.{Angle}
 use Rattle.qasm_angle.specs.declared.errors.AngleFault.{AngleFault}
 use Rattle.qasm_angle.specs.declared.expression.Operation.TheVariants.{Divide}
 use Rattle.qasm_angle.specs.Ratio.{gcd, lowest, limited, whole}
-use Rattle.qasm_angle.specs.Sixteenths.{phase_of}
+use Rattle.qasm_angle.specs.Sixteenths.{phase_of_angle}
 use Rattle.qasm_angle.specs.Literals.{literal_value, decimal}
 use Rattle.qasm_angle.specs.Values as values
 use Rattle.qasm_angle.specs.Values.{number, opposite_angle}
@@ -80,21 +80,21 @@ crz_calls k depth = u1_at k depth 1 ++ (cx_at depth ++ (u1_at (opposite_phase k)
 abbrev cu1_calls : ℕ → List Event
 cu1_calls k = u1_at k 2 0 ++ (cx_at 2 ++ (u1_at (opposite_phase k) 2 1 ++ (cx_at 2 ++ u1_at k 2 1)))
 
-u1_events : (depth q : ℕ) (a : Angle) (k : ℕ) → phase_of a ≡ Some k
+u1_events : (depth q : ℕ) (a : Angle) (k : ℕ) → phase_of_angle a ≡ Some k
     → inner (codes "u1") depth (a ∷ []) (q ∷ []) ≡ Called (depth + 1) ∷ Applied (U q 0 0 k) ∷ []
-unfolding with_header angle_of gcd lowest limited phase_of literal_value decimal
+unfolding with_header angle_of gcd lowest limited phase_of_angle literal_value decimal
 u1_events depth q a k e = ap (λ p. Called (depth + 1) ∷ (u_of q (Some 0) (Some 0) p ++ [])) e
 
-ry_events : (depth q : ℕ) (a : Angle) (k : ℕ) → phase_of a ≡ Some k
+ry_events : (depth q : ℕ) (a : Angle) (k : ℕ) → phase_of_angle a ≡ Some k
     → inner (codes "ry") depth (a ∷ []) (q ∷ []) ≡ Called (depth + 1) ∷ Called (depth + 1 + 1) ∷ Applied (U q k 0 0) ∷ []
-unfolding with_header angle_of gcd lowest limited phase_of literal_value decimal
+unfolding with_header angle_of gcd lowest limited phase_of_angle literal_value decimal
 ry_events depth q a k e = ap (λ p. Called (depth + 1) ∷ ((Called (depth + 1 + 1) ∷ (u_of q p (Some 0) (Some 0) ++ [])) ++ [])) e
 
 halved : (a half : Angle) → half_of a ≡ Ok half → values.applied Divide a (number (whole (pos 2))) ≡ Ok half
 unfolding values.applied
 halved a half e = e
 
-module _ (a half : Angle) (k : ℕ) (e : half_of a ≡ Ok half) (f : phase_of half ≡ Some k) where
+module _ (a half : Angle) (k : ℕ) (e : half_of a ≡ Ok half) (f : phase_of_angle half ≡ Some k) where
   plus : values.applied Divide a (number (whole (pos 2))) ≡ Ok half
   plus = halved a half e
 
@@ -111,7 +111,7 @@ module _ (a half : Angle) (k : ℕ) (e : half_of a ≡ Ok half) (f : phase_of ha
   u1_minus depth q = u1_events depth q (opposite_angle half) (opposite_phase k) (opposite-phase half k f)
 
   crz_events : (depth : ℕ) → inner (codes "crz") depth (a ∷ []) (0 ∷ 1 ∷ []) ≡ crz_calls k (depth + 1)
-  unfolding with_header angle_of gcd lowest limited phase_of literal_value decimal
+  unfolding with_header angle_of gcd lowest limited phase_of_angle literal_value decimal
   crz_events depth =
       ap₂ (λ r s. with_angle (codes "u1") (depth + 1) 1 r ++ (cx_at (depth + 1) ++ (with_angle (codes "u1") (depth + 1) 1 s ++ cx_at (depth + 1)))) plus minus
       ∙ ap₂ (λ r s. (Called (depth + 1) ∷ r) ++ (cx_at (depth + 1) ++ ((Called (depth + 1) ∷ s) ++ cx_at (depth + 1)))) (u1_plus (depth + 1) 1) (u1_minus (depth + 1) 1)
@@ -120,7 +120,7 @@ module _ (a half : Angle) (k : ℕ) (e : half_of a ≡ Ok half) (f : phase_of ha
   crz_map = has_map (comes (crz_events 1) refl) (certified (crz_certified k below))
 
   crx_events : header_events (codes "crx") (a ∷ []) (0 ∷ 1 ∷ []) ≡ h_at 2 ++ ((Called 2 ∷ crz_calls k 3) ++ h_at 2)
-  unfolding with_header angle_of values.applied gcd lowest limited phase_of literal_value decimal
+  unfolding with_header angle_of values.applied gcd lowest limited phase_of_angle literal_value decimal
   crx_events = ap (λ events. h_at 2 ++ ((Called 2 ∷ events) ++ h_at 2)) (crz_events 2)
 
   pub crx_map : HasMap (codes "crx") (a ∷ []) (0 ∷ 1 ∷ []) (controlled (mul two (root_power k)) (single (rotation_x (2 * k))))
@@ -129,7 +129,7 @@ module _ (a half : Angle) (k : ℕ) (e : half_of a ≡ Ok half) (f : phase_of ha
   cry_events : header_events (codes "cry") (a ∷ []) (0 ∷ 1 ∷ []) ≡
       (Called 2 ∷ Called 3 ∷ Called 4 ∷ Applied (U 1 k 0 0) ∷ []) ++ cx_at 2
       ++ (Called 2 ∷ Called 3 ∷ Called 4 ∷ Applied (U 1 (opposite_phase k) 0 0) ∷ []) ++ cx_at 2
-  unfolding with_header angle_of gcd lowest limited phase_of literal_value decimal
+  unfolding with_header angle_of gcd lowest limited phase_of_angle literal_value decimal
   cry_events =
       ap₂ (λ r s. with_angle (codes "ry") 2 1 r ++ (cx_at 2 ++ (with_angle (codes "ry") 2 1 s ++ cx_at 2))) plus minus
       ∙ ap₂ (λ r s. (Called 2 ∷ r) ++ (cx_at 2 ++ ((Called 2 ∷ s) ++ cx_at 2))) (ry_events 2 1 half k f)
@@ -139,7 +139,7 @@ module _ (a half : Angle) (k : ℕ) (e : half_of a ≡ Ok half) (f : phase_of ha
   cry_map = has_map (comes cry_events refl) (certified (cry_certified k below))
 
   cu1_events : header_events (codes "cu1") (a ∷ []) (0 ∷ 1 ∷ []) ≡ cu1_calls k
-  unfolding with_header angle_of gcd lowest limited phase_of literal_value decimal
+  unfolding with_header angle_of gcd lowest limited phase_of_angle literal_value decimal
   cu1_events =
       ap₂ (λ r s. with_angle (codes "u1") 2 0 r ++ (cx_at 2 ++ (with_angle (codes "u1") 2 1 s ++ (cx_at 2 ++ (with_angle (codes "u1") 2 1 r ++ []))))) plus minus
       ∙ ap₂ (λ r s. (Called 2 ∷ r) ++ (cx_at 2 ++ ((Called 2 ∷ s) ++ (cx_at 2 ++ ((Called 2 ∷ inner (codes "u1") 2 (half ∷ []) (1 ∷ [])) ++ []))))) (u1_plus 2 0) (u1_minus 2 1)
@@ -149,7 +149,7 @@ module _ (a half : Angle) (k : ℕ) (e : half_of a ≡ Ok half) (f : phase_of ha
   cu1_map = has_map (comes cu1_events refl) (certified (cu1_certified k below))
 
   cp_events : header_events (codes "cp") (a ∷ []) (0 ∷ 1 ∷ []) ≡ cu1_calls k
-  unfolding with_header angle_of gcd lowest limited phase_of literal_value decimal
+  unfolding with_header angle_of gcd lowest limited phase_of_angle literal_value decimal
   cp_events = cu1_events
 
   pub cp_map : HasMap (codes "cp") (a ∷ []) (0 ∷ 1 ∷ []) (controlled one (single (phase (2 * k))))

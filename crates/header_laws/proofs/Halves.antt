@@ -6,7 +6,7 @@ use Rattle.zx_model.proofs.Whole.{neg-mul}
 use lib.IntN.{neg_ℤ-neg_ℤ}
 use Rattle.qasm_angle.specs.declared.angle.Angle.{Angle}
 use Rattle.qasm_angle.specs.Ratio.{Ratio, gcd, lowest, limited, largest, opposite, quotient, whole}
-use Rattle.qasm_angle.specs.Sixteenths.{phase_of, within_a_turn}
+use Rattle.qasm_angle.specs.Sixteenths.{phase_of_angle, within_a_turn}
 use Rattle.qasm_angle.specs.Values.{opposite_angle, of_opposite, of_parts}
 use Rattle.header_laws.specs.Calls.{half_of}
 
@@ -70,12 +70,12 @@ phase_if : (zero whole : Bool) (n : ℤ)
 phase_if true whole n = turns_if whole n
 phase_if false whole n = refl
 
-phase-opposite : (a : Angle) → phase_of (opposite_angle a) ≡ option_map opposite_phase (phase_of a)
-unfolding phase_of
+phase-opposite : (a : Angle) → phase_of_angle (opposite_angle a) ≡ option_map opposite_phase (phase_of_angle a)
+unfolding phase_of_angle
 phase-opposite a =
     ap₂ (λ r n. option_map within_a_turn (if r == 0 then (if half_turn % a.multiple.denominator == 0 then Some n else None) else None))
     (abs-neg a.rational.numerator) (neg-mul a.multiple.numerator (pos (half_turn / a.multiple.denominator)))
     ∙ phase_if (unsigned_abs a.rational.numerator == 0) (half_turn % a.multiple.denominator == 0) (a.multiple.numerator *ℤ pos (half_turn / a.multiple.denominator))
 
-pub opposite-phase : (a : Angle) (k : ℕ) → phase_of a ≡ Some k → phase_of (opposite_angle a) ≡ Some (opposite_phase k)
+pub opposite-phase : (a : Angle) (k : ℕ) → phase_of_angle a ≡ Some k → phase_of_angle (opposite_angle a) ≡ Some (opposite_phase k)
 opposite-phase a k e = phase-opposite a ∙ ap (option_map opposite_phase) e

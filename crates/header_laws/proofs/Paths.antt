@@ -3,7 +3,7 @@ use Rattle.std.specs.Prelude.{◌≡◌, ℕ, zero as nought, suc, ◌+◌, Bool
 use Rattle.std.proofs.Common.{refl, sym, ap, ap₂, ◌∙◌}
 use Rattle.zx_model.specs.Phase.{half_turn}
 use Rattle.zx_model.specs.Cyclotomic.{Cyclotomic, eighth_root, mul_cyclotomic}
-use Rattle.zx_model.specs.Number.{Number, zero, one, root, add, mul, sign, root_power}
+use Rattle.zx_model.specs.Number.{Number, zero, one, sixteenth_root, add, mul, sign, root_power}
 use Rattle.zx_model.specs.Bits.{xor, bit}
 use Rattle.zx_model.proofs.CyclotomicRing as Cyclotomic
 use Rattle.zx_model.proofs.CyclotomicRing.{expand_cyclotomic}
@@ -31,7 +31,7 @@ abbrev pub power : ℕ → Number
 power nought = one
 power (suc k) = root_times (power k)
 
-root-mul : (a : Number) → mul root a ≡ root_times a
+root-mul : (a : Number) → mul sixteenth_root a ≡ root_times a
 unfolding mul
 root-mul a = same _ _ ((simp expand_cyclotomic) ∙ eighth_root-mul a.turned) (simp expand_cyclotomic)
 

@@ -5,7 +5,7 @@ ghost use Rattle.zx_model.specs.Number.{zero, one, neg, mul, sign, root_power};
 ghost use Rattle.zx_model.specs.Phase.{half_turn, quarter_turn, eighth_turn, opposite_phase};
 ghost use Rattle.zx_model.specs.Bits.{xor, bit};
 ghost use Rattle.zx_gates.specs.Maps.{phase, same_bits, swap_two};
-ghost use Rattle.qasm_angle.specs.Sixteenths.{phase_of};
+ghost use Rattle.qasm_angle.specs.Sixteenths.{phase_of_angle};
 ghost use Rattle.qasm_angle.specs.declared.angle.Angle.{Angle};
 ghost use Rattle.qasm_scope.specs.Calls.{expand_declared};
 ghost use Rattle.qasm_scope.specs.Meaning.{with_header};
@@ -49,27 +49,27 @@ pub fn gates_without_angles()
 /// turns.
 pub fn gates_with_angles()
     // on one qubit
-    ensures u1 { (a : Angle) (k : ℕ) → phase_of a ≡ Some k
+    ensures u1 { (a : Angle) (k : ℕ) → phase_of_angle a ≡ Some k
         → HasMap (codes "u1") (a ∷ []) (0 ∷ []) (single (phase k)) }
-    ensures p { (a : Angle) (k : ℕ) → phase_of a ≡ Some k
+    ensures p { (a : Angle) (k : ℕ) → phase_of_angle a ≡ Some k
         → HasMap (codes "p") (a ∷ []) (0 ∷ []) (single (phase k)) }
-    ensures rx { (a : Angle) (k : ℕ) → phase_of a ≡ Some k
+    ensures rx { (a : Angle) (k : ℕ) → phase_of_angle a ≡ Some k
         → HasMap (codes "rx") (a ∷ []) (0 ∷ []) (single (rotation_x k)) }
-    ensures ry { (a : Angle) (k : ℕ) → phase_of a ≡ Some k
+    ensures ry { (a : Angle) (k : ℕ) → phase_of_angle a ≡ Some k
         → HasMap (codes "ry") (a ∷ []) (0 ∷ []) (single (rotation_y k)) }
-    ensures rz { (a : Angle) (k : ℕ) → phase_of a ≡ Some k
+    ensures rz { (a : Angle) (k : ℕ) → phase_of_angle a ≡ Some k
         → HasMap (codes "rz") (a ∷ []) (0 ∷ []) (single (rotation_z k)) }
-    ensures u2 { (a b : Angle) (j k : ℕ) → phase_of a ≡ Some j → phase_of b ≡ Some k →
+    ensures u2 { (a b : Angle) (j k : ℕ) → phase_of_angle a ≡ Some j → phase_of_angle b ≡ Some k →
         HasMap (codes "u2") (a ∷ b ∷ []) (0 ∷ []) (single (three_rotations quarter_turn j k)) }
-    ensures u3 { (a b c : Angle) (i j k : ℕ) → phase_of a ≡ Some i → phase_of b ≡ Some j
-        → phase_of c ≡ Some k →
+    ensures u3 { (a b c : Angle) (i j k : ℕ) → phase_of_angle a ≡ Some i → phase_of_angle b ≡ Some j
+        → phase_of_angle c ≡ Some k →
         HasMap (codes "u3") (a ∷ b ∷ c ∷ []) (0 ∷ []) (single (three_rotations i j k)) }
-    ensures u { (a b c : Angle) (i j k : ℕ) → phase_of a ≡ Some i → phase_of b ≡ Some j
-        → phase_of c ≡ Some k →
+    ensures u { (a b c : Angle) (i j k : ℕ) → phase_of_angle a ≡ Some i → phase_of_angle b ≡ Some j
+        → phase_of_angle c ≡ Some k →
         HasMap (codes "u") (a ∷ b ∷ c ∷ []) (0 ∷ []) (single (three_rotations i j k)) }
 
     // on two qubits
-    ensures rzz { (a : Angle) (k : ℕ) → phase_of a ≡ Some k
+    ensures rzz { (a : Angle) (k : ℕ) → phase_of_angle a ≡ Some k
         → HasMap (codes "rzz") (a ∷ []) (0 ∷ 1 ∷ []) (rotation_zz k) }
 {}
 
@@ -77,18 +77,18 @@ pub fn gates_with_angles()
 /// sixteenth turns. The angle is 2*k sixteenth turns then, up to two whole turns, and the scalar
 /// exp(i*angle/2) of the rotations is z^k.
 pub fn gates_with_half_angles()
-    ensures crx { (a half : Angle) (k : ℕ) → half_of a ≡ Ok half → phase_of half ≡ Some k
+    ensures crx { (a half : Angle) (k : ℕ) → half_of a ≡ Ok half → phase_of_angle half ≡ Some k
         → HasMap (codes "crx") (a ∷ []) (0 ∷ 1 ∷ [])
         (controlled (mul two (root_power k)) (single (rotation_x (2 * k)))) }
-    ensures cry { (a half : Angle) (k : ℕ) → half_of a ≡ Ok half → phase_of half ≡ Some k
+    ensures cry { (a half : Angle) (k : ℕ) → half_of a ≡ Ok half → phase_of_angle half ≡ Some k
         → HasMap (codes "cry") (a ∷ []) (0 ∷ 1 ∷ [])
         (controlled (mul two (root_power k)) (single (rotation_y (2 * k)))) }
-    ensures crz { (a half : Angle) (k : ℕ) → half_of a ≡ Ok half → phase_of half ≡ Some k
+    ensures crz { (a half : Angle) (k : ℕ) → half_of a ≡ Ok half → phase_of_angle half ≡ Some k
         → HasMap (codes "crz") (a ∷ []) (0 ∷ 1 ∷ [])
         (controlled (root_power k) (single (rotation_z (2 * k)))) }
-    ensures cu1 { (a half : Angle) (k : ℕ) → half_of a ≡ Ok half → phase_of half ≡ Some k →
+    ensures cu1 { (a half : Angle) (k : ℕ) → half_of a ≡ Ok half → phase_of_angle half ≡ Some k →
         HasMap (codes "cu1") (a ∷ []) (0 ∷ 1 ∷ []) (controlled one (single (phase (2 * k)))) }
-    ensures cp { (a half : Angle) (k : ℕ) → half_of a ≡ Ok half → phase_of half ≡ Some k →
+    ensures cp { (a half : Angle) (k : ℕ) → half_of a ≡ Ok half → phase_of_angle half ≡ Some k →
         HasMap (codes "cp") (a ∷ []) (0 ∷ 1 ∷ []) (controlled one (single (phase (2 * k)))) }
 {}
 

@@ -2,7 +2,7 @@
 use Rattle.std.proofs.Common.{◌≡◌, ◌≢◌, refl, sym, ◌∙◌, ap, ap₂, ℕ, suc, ◌+◌, ◌<◌, ◌≤◌, Bool, true, false, not, ◌&&◌, ◌||◌, eqb, List, [], ◌∷◌, length, true≢false, arith}
 use Rattle.std.specs.List.{list_all}
 use Rattle.zx_model.specs.Bits.{member, one_if}
-use Rattle.zx_calculus.specs.Graph.{XY, Graph, Vertex, ids, end_vertices, kind_of, with_kinds, without, insert_vertex, Live, Interior, WellFormed}
+use Rattle.zx_calculus.specs.Graph.{XY, Graph, Vertex, ids, end_vertices, kind_of, with_kinds, without, insert_vertex, IsVertex, Interior, WellFormed}
 use Rattle.zx_calculus.specs.Counts.{has_input, has_output}
 use Rattle.zx_calculus.specs.Edits.{KeepsEnds}
 use Rattle.zx_calculus.specs.Splits.{new_vertex, least_free_from, spider_of_phase_zero, move_end}
@@ -50,7 +50,7 @@ one_less a b c d x y true e f g h none = absurd (true≢false none)
 one_less a b c d x y false e f g h none = omega arith
 
 -- an interior vertex goes
-one_gone : (g h : Graph) (u : ℕ) → WellFormed g → Live g u → Interior g u → length h.vertices ≡ count every (without u g.vertices) →
+one_gone : (g h : Graph) (u : ℕ) → WellFormed g → IsVertex g u → Interior g u → length h.vertices ≡ count every (without u g.vertices) →
     count (both_test g) h.vertices ≡ count (both_test g) (without u g.vertices) → KeepsEnds g h → demand h + 1 ≡ demand g
 one_gone g h u w there interior left left_both frame =
     one_less (length h.vertices) (with_both h) (length g.vertices) (with_both g) (count every (without u g.vertices))
@@ -60,7 +60,7 @@ one_gone g h u w there interior left left_both frame =
     (count_front (both_test g) u g.vertices (distinct g w) there)
     (ap₂ (λ a b. a && b) interior.no_input interior.no_output)
 
-changed_gone : (g h : Graph) (u : ℕ) (f : Change) → WellFormed g → Live g u → Interior g u →
+changed_gone : (g h : Graph) (u : ℕ) (f : Change) → WellFormed g → IsVertex g u → Interior g u →
     h.vertices ≡ with_kinds f (without u g.vertices) → KeepsEnds g h → demand h + 1 ≡ demand g
 changed_gone g h u f w there interior is frame =
     one_gone g h u w there interior
@@ -90,7 +90,7 @@ one_more a b c d x true o t e f g h i = absurd (true≢false g)
 one_more a b c d x false true t e f g h i = absurd (true≢false i)
 one_more a b c d x false false t e f g h i = omega (arith, e, f, h)
 
-module _ (g h : Graph) (b new : ℕ) (w : WellFormed g) (fresh : member new (ids g.vertices) ≡ false) (there : Live g b)
+module _ (g h : Graph) (b new : ℕ) (w : WellFormed g) (fresh : member new (ids g.vertices) ≡ false) (there : IsVertex g b)
     (vertices : h.vertices ≡ insert_vertex (spider_of_phase_zero new) g.vertices) (after : Test)
     (at_new : after new (spider_of_phase_zero new).kind ≡ false) (at_b : after b (kind_of g.vertices b) ≡ false)
     (others : (p : ℕ) → p ≢ b → p ≢ new → after p (kind_of g.vertices p) ≡ has_both g p)
@@ -116,7 +116,7 @@ split_input g b h w c =
     (λ p n m. ap (λ t. t && member p (end_vertices g.outputs)) (member-move_end-other b (new_vertex g) g.inputs p n m))
     (ap₂ (λ ins outs. count (λ p k. member p (end_vertices ins) && member p (end_vertices outs)) h.vertices) c.inputs c.outputs)
   where
-    there : Live g b
+    there : IsVertex g b
     there = end_there g w b g.inputs w.inputs.there c.has_input
 
     apart : b ≢ new_vertex g
@@ -177,20 +177,20 @@ least_within n (x ∷ xs) =
 pub new_within : (g : Graph) → WellFormed g → new_vertex g ≤ length g.vertices
 new_within g w = let le = least_within 0 (ids g.vertices) in let is = length-ids g.vertices in omega (arith, le, is)
 
-was_live : (g h : Graph) (f : Change) (v : ℕ) → h.vertices ≡ with_kinds f g.vertices → Live h v → Live g v
+was_live : (g h : Graph) (f : Change) (v : ℕ) → h.vertices ≡ with_kinds f g.vertices → IsVertex h v → IsVertex g v
 was_live g h f v is live = sym (ap (λ vs. member v (ids vs)) is ∙ ap (member v) (ids-with_kinds f g.vertices)) ∙ live
 
-was_left : (g : Graph) (u v : ℕ) → member v (ids (without u g.vertices)) ≡ true → Live g v
+was_left : (g : Graph) (u v : ℕ) → member v (ids (without u g.vertices)) ≡ true → IsVertex g v
 was_left g u v left =
     sym (ap (member v) (ids-without u g.vertices) ∙ member-removed_other v u (ids g.vertices)
     (λ e. true≢false (sym left ∙ ap (λ x. member x (ids (without u g.vertices))) e ∙ member-without u g.vertices))) ∙ left
 
-was_one_left : (g h : Graph) (u : ℕ) (f : Change) (v : ℕ) → h.vertices ≡ with_kinds f (without u g.vertices) → Live h v → Live g v
+was_one_left : (g h : Graph) (u : ℕ) (f : Change) (v : ℕ) → h.vertices ≡ with_kinds f (without u g.vertices) → IsVertex h v → IsVertex g v
 was_one_left g h u f v is live =
     was_left g u v (sym (ap (λ vs. member v (ids vs)) is ∙ ap (member v) (ids-with_kinds f (without u g.vertices))) ∙ live)
 
 was_or_new : (g h : Graph) (bound : ℕ) → WellFormed g → h.vertices ≡ insert_vertex (spider_of_phase_zero (new_vertex g)) g.vertices →
-    length g.vertices < bound → ((v : ℕ) → Live g v → v < bound) → (v : ℕ) → Live h v → v < bound
+    length g.vertices < bound → ((v : ℕ) → IsVertex g v → v < bound) → (v : ℕ) → IsVertex h v → v < bound
 was_or_new g h bound w is few below v live =
     let le = new_within g w in
     let told : (eqb v (new_vertex g) || member v (ids g.vertices)) ≡ true =
@@ -199,7 +199,7 @@ was_or_new g h bound w is few below v live =
     (λ f n. below v (ap (λ b. b || member v (ids g.vertices)) (sym f) ∙ told))
 
 pub kept_below : (g : Graph) (s : Step) (h : Graph) (bound : ℕ) → WellFormed g → IsStep g s h → length g.vertices < bound →
-    ((v : ℕ) → Live g v → v < bound) → (v : ℕ) → Live h v → v < bound
+    ((v : ℕ) → IsVertex g v → v < bound) → (v : ℕ) → IsVertex h v → v < bound
 kept_below g (LocalComplement u) h bound w c few below v live = below v (was_live g h _ v c.vertices live)
 kept_below g (Delete u) h bound w c few below v live = below v (was_one_left g h u _ v c.vertices live)
 kept_below g (Pivot u v) h bound w c few below x live = below x (was_live g h _ x c.vertices live)

@@ -3,7 +3,7 @@
 ghost use Rattle.std.specs.Prelude.{◌≡◌, ◌<◌, ◌≤◌, ◌+◌, ℕ, true, false, not, List, length};
 ghost use Rattle.std.specs.List.{list_all};
 ghost use Rattle.zx_model.specs.Bits.{one_if};
-ghost use Rattle.zx_calculus.specs.Graph.{Graph, Live, WellFormed};
+ghost use Rattle.zx_calculus.specs.Graph.{Graph, IsVertex, WellFormed};
 ghost use Rattle.zx_calculus.specs.Counts.{has_input, has_output};
 ghost use Rattle.zx_calculus.specs.Splits.{new_vertex};
 ghost use Rattle.zx_calculus.specs.Steps.{Step, IsStep, IsRun, SplitInput, SplitOutput};
@@ -39,6 +39,6 @@ pub fn runs_change_the_demand()
 pub fn each_rewrite_stays_below_a_bound()
     ensures new { (g : Graph) → WellFormed g → new_vertex g ≤ length g.vertices }
     ensures kept { (g : Graph) (s : Step) (h : Graph) (bound : ℕ) → WellFormed g → IsStep g s h →
-        length g.vertices < bound → ((v : ℕ) → Live g v → v < bound) →
-        (v : ℕ) → Live h v → v < bound }
+        length g.vertices < bound → ((v : ℕ) → IsVertex g v → v < bound) →
+        (v : ℕ) → IsVertex h v → v < bound }
 {}

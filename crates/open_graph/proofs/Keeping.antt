@@ -2,7 +2,7 @@
 use Rattle.std.proofs.Common.{◌≡◌, ◌≢◌, refl, sym, ◌∙◌, ap, ap₂, subst, ℕ, ◌<◌, true, false, ◌||◌, cond, eqb, List, [], ◌∷◌, ◌++◌, length, get_or, set, remove, Option, Some, None, IsSome, slice_index_or, true≢false, ne_eqb}
 use Rattle.zx_model.specs.Phase.{turn}
 use Rattle.zx_model.specs.Bits.{xor, member}
-use Rattle.zx_calculus.specs.Graph.{XY, Kind, Vertex, End, Graph, ids, kind_of, plane_of, is_XY, end_vertices, insert_vertex, with_kinds, Live, OrderedEnds, WellFormed, is_interior}
+use Rattle.zx_calculus.specs.Graph.{XY, Kind, Vertex, End, Graph, ids, kind_of, plane_of, is_XY, end_vertices, insert_vertex, with_kinds, IsVertex, OrderedEnds, WellFormed, is_interior}
 use Rattle.zx_calculus.specs.Edits.{is_pair, at_vertex}
 use Rattle.zx_calculus.proofs.Booleans.{or-false, xor-false}
 use Rattle.zx_calculus.proofs.Ids.{by_equal, eqb-self, removed, Symmetric}
@@ -123,7 +123,7 @@ put_row old new u row puts p =
 pub keeps_toggled : (old mid new : List (Option Slot)) (u v : ℕ) (row_u row_v : List ℕ) → u ≢ v →
     Puts old mid u (record (told_at old u) { row = row_u }) → Puts mid new v (record (told_at mid v) { row = row_v }) →
     ((q : ℕ) → member q row_u ≡ xor (member q (told_at old u).row) (eqb q v)) → ((q : ℕ) → member q row_v ≡ xor (member q (told_at mid v).row) (eqb q u)) →
-    (h : Graph) → WellFormed h → Live h u → Live h v → Stores old h → Stores new (toggled h u v)
+    (h : Graph) → WellFormed h → IsVertex h u → IsVertex h v → Stores old h → Stores new (toggled h u v)
 keeps_toggled old mid new u v row_u row_v apart first second at_u at_v h w u_there v_there k =
     record {
       live = λ p. ap (λ x. x.live) (same p) ∙ k.live p;
@@ -258,8 +258,8 @@ module _ (old new : List (Option Slot)) (inputs outputs : List End) (sound : IsS
       subst (λ (xs : List End). Becomes new xs outs (graph_of old inputs outputs)) (sym i)
       (subst (λ (xs : List End). Becomes new inputs xs (graph_of old inputs outputs)) (sym o) (becomes_same same))
 
-  pub becomes_toggled : (u v : ℕ) → Live (graph_of old inputs outputs) u → Live (graph_of old inputs outputs) v → u ≢ v →
-      ((h : Graph) → WellFormed h → Live h u → Live h v → Stores old h → Stores new (toggled h u v)) → Becomes new inputs outputs (toggled (graph_of old inputs outputs) u v)
+  pub becomes_toggled : (u v : ℕ) → IsVertex (graph_of old inputs outputs) u → IsVertex (graph_of old inputs outputs) v → u ≢ v →
+      ((h : Graph) → WellFormed h → IsVertex h u → IsVertex h v → Stores old h → Stores new (toggled h u v)) → Becomes new inputs outputs (toggled (graph_of old inputs outputs) u v)
   becomes_toggled u v u_there v_there apart keeps =
       becomes new (toggled (graph_of old inputs outputs) u v)
       (toggle_kept (graph_of old inputs outputs) u v _ sound.well_formed (toggled_is_toggle (graph_of old inputs outputs) u v sound.well_formed u_there v_there apart))

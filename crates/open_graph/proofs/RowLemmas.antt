@@ -2,7 +2,7 @@
 use Rattle.std.proofs.Common.{◌≡◌, refl, sym, ◌∙◌, ap, ℕ, suc, ◌<◌, ◌≤◌, Bool, true, false, not, ◌||◌, ◌&&◌, eqb, ltb, leb, List, [], ◌∷◌, Option, Some, None, IfSome, true≢false, ltb-true, ltb-false, lt-ltb, leb-true, le-leb, arith}
 use Rattle.std.specs.List.{list_all}
 use Rattle.zx_model.specs.Bits.{xor, member}
-use Rattle.zx_calculus.specs.Graph.{Graph, in_order, joined, Live, WellFormed}
+use Rattle.zx_calculus.specs.Graph.{Graph, in_order, joined, IsVertex, WellFormed}
 use Rattle.zx_calculus.proofs.Booleans.{xor-false, or-false, and-false, and-true}
 use Rattle.zx_calculus.proofs.Ids.{by_test, by_equal, and-left, and-right, or-left, or-right, eqb-self, member-here, member-filter, removed, removed-absent, member-removed, member-removed_other}
 use Rattle.zx_calculus.proofs.Kept.{both, in_order-removed}
@@ -130,6 +130,6 @@ first_alike f g start None same none = λ p le. sym (same p) ∙ none p le
 first_alike f g start (Some first) same found = (found.0, sym (same first) ∙ found.1, λ p le lt. sym (same p) ∙ found.2 p le lt)
 
 -- a neighbour is a vertex
-pub first_live : (g : Graph) (v start : ℕ) (r : Option ℕ) → WellFormed g → IsFirstFrom (joined g.edges v) start r → IfSome r (λ w. Live g w)
+pub first_live : (g : Graph) (v start : ℕ) (r : Option ℕ) → WellFormed g → IsFirstFrom (joined g.edges v) start r → IfSome r (λ w. IsVertex g w)
 first_live g v start None w found = tt
 first_live g v start (Some first) w found = neighbour_live g v first (member-neighbours g v first w ∙ found.1)

@@ -3,7 +3,7 @@ use Rattle.std.proofs.Common.{ltb, ◌≡◌, ◌≢◌, refl, sym, ◌∙◌, a
 use Rattle.zx_model.specs.Phase.{turn}
 use Rattle.zx_model.specs.Bits.{member}
 use Rattle.zx_bits.specs.Sets.{IsBelow}
-use Rattle.zx_calculus.specs.Graph.{XY, Kind, End, Graph, ids, neighbours, in_order, insert_vertex, with_kinds, Live, WellFormed, Interior, is_interior}
+use Rattle.zx_calculus.specs.Graph.{XY, Kind, End, Graph, ids, neighbours, in_order, insert_vertex, with_kinds, IsVertex, WellFormed, Interior, is_interior}
 use Rattle.zx_calculus.specs.Splits.{least_free}
 use Rattle.zx_calculus.specs.Edits.{IsToggle, IsRemoval, at_vertex}
 use Rattle.zx_calculus.specs.Toggles.{IsToggled, across, among}
@@ -63,7 +63,7 @@ module _ {slots new : List (Option Slot)} {inputs outputs ins outs : List End} {
 
 module _ {slots : List (Option Slot)} {inputs outputs : List End} {kept : List VertexSet} {scratch : Scratch} {reach : ℕ} {g : OpenGraph}
     (is : IsStored slots inputs outputs kept scratch reach) (view : seen slots inputs outputs reach ≡ g) where
-  pub live_there : (v : ℕ) → Live g.graph v → IsSome (slice_index_or slots v None)
+  pub live_there : (v : ℕ) → IsVertex g.graph v → IsSome (slice_index_or slots v None)
   live_there v live = contains_live slots v (ap (λ g. member v (ids g.graph.vertices)) view ∙ live)
 
   pub powers_seen : (t : Turn) (u : ℕ) → in_order ltb (told_at slots u).row ≡ true →
@@ -144,15 +144,15 @@ module _ {slots : List (Option Slot)} {inputs outputs : List End} {kept : List V
         (toggled_around slots inputs outputs is.sound new u v rows),
   )
 
-  pub toggle_seen : {T E : Type 0} (r : Result T E) (u v : ℕ) → Live g.graph u → Live g.graph v → u ≢ v →
-      OnOk r ((h : Graph) → WellFormed h → Live h u → Live h v → Stores slots h → Stores new (toggled h u v)) → OnErr r (SameTold slots new) →
+  pub toggle_seen : {T E : Type 0} (r : Result T E) (u v : ℕ) → IsVertex g.graph u → IsVertex g.graph v → u ≢ v →
+      OnOk r ((h : Graph) → WellFormed h → IsVertex h u → IsVertex h v → Stores slots h → Stores new (toggled h u v)) → OnErr r (SameTold slots new) →
       Settled r new inputs outputs g.graph (IsToggle g.graph u v)
   toggle_seen {T} {E} r u v u_live v_live apart ok err =
-      subst (λ (g : OpenGraph). Live g.graph u → Live g.graph v → Settled r new inputs outputs g.graph (IsToggle g.graph u v)) view
+      subst (λ (g : OpenGraph). IsVertex g.graph u → IsVertex g.graph v → Settled r new inputs outputs g.graph (IsToggle g.graph u v)) view
       (λ u_there v_there. at r u_there v_there ok err) u_live v_live
     where
-      at : (r : Result T E) → Live before u → Live before v →
-          OnOk r ((h : Graph) → WellFormed h → Live h u → Live h v → Stores slots h → Stores new (toggled h u v)) → OnErr r (SameTold slots new) →
+      at : (r : Result T E) → IsVertex before u → IsVertex before v →
+          OnOk r ((h : Graph) → WellFormed h → IsVertex h u → IsVertex h v → Stores slots h → Stores new (toggled h u v)) → OnErr r (SameTold slots new) →
           Settled r new inputs outputs before (IsToggle before u v)
       at (Ok x) u_there v_there keeps err =
           let made = becomes_toggled slots new inputs outputs is.sound u v u_there v_there apart keeps in

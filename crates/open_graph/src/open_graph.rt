@@ -3,7 +3,7 @@
 ghost use Rattle.std.specs.Prelude.{◌≡◌, ◌≢◌, ◌↔◌, ◌<◌, ◌≤◌, ◌+◌, ◌-◌, ◌++◌, ℕ, [], ◌∷◌, true, false, length, slice_set, remove, is_some, slice_get};
 ghost use Rattle.std.specs.Prelude.{IsOk, IfOk, OnOk, OnErr, IfSome};
 ghost use Rattle.zx_model.specs.Bits.{member};
-ghost use Rattle.zx_calculus.specs.Graph.{ids, kind_of, plane_of, joined, end_vertices, insert_vertex, with_kinds, Live, WellFormed, Interior, is_interior};
+ghost use Rattle.zx_calculus.specs.Graph.{ids, kind_of, plane_of, joined, end_vertices, insert_vertex, with_kinds, IsVertex, WellFormed, Interior, is_interior};
 ghost use Rattle.zx_calculus.specs.Graph as zx;
 ghost use Rattle.zx_calculus.specs.Turns.{in_plane, quarter_turned};
 ghost use Rattle.zx_calculus.specs.Splits.{least_free};
@@ -103,7 +103,7 @@ impl OpenGraph {
 
     /// Adds an input after all others. Where memory runs out the graph stays as it was.
     pub fn add_input(&mut self, end: End) -> Result<(), AllocError>
-        requires live { Live self.old.graph end.vertex }
+        requires live { IsVertex self.old.graph end.vertex }
         requires plane { plane_of self.old.graph end.vertex ≡ zx.XY }
         requires free { member end.vertex (end_vertices self.old.graph.inputs) ≡ false }
         ensures ok { OnOk result (self.new.graph ≡
@@ -117,7 +117,7 @@ impl OpenGraph {
 
     /// Adds an output after all others. Where memory runs out the graph stays as it was.
     pub fn add_output(&mut self, end: End) -> Result<(), AllocError>
-        requires live { Live self.old.graph end.vertex }
+        requires live { IsVertex self.old.graph end.vertex }
         requires plane { plane_of self.old.graph end.vertex ≡ zx.XY }
         requires free { member end.vertex (end_vertices self.old.graph.outputs) ≡ false }
         ensures ok { OnOk result (self.new.graph ≡
@@ -132,7 +132,7 @@ impl OpenGraph {
     /// Replaces the input at a place.
     pub fn move_input(&mut self, i: usize, end: End)
         requires in_range { i < length self.old.graph.inputs }
-        requires live { Live self.old.graph end.vertex }
+        requires live { IsVertex self.old.graph end.vertex }
         requires plane { plane_of self.old.graph end.vertex ≡ zx.XY }
         requires free { member end.vertex (end_vertices (remove self.old.graph.inputs i)) ≡ false }
         ensures ok { self.new.graph ≡ record self.old.graph { inputs = slice_set self.old.graph.inputs i end } }
@@ -145,7 +145,7 @@ impl OpenGraph {
     /// Replaces the output at a place.
     pub fn move_output(&mut self, i: usize, end: End)
         requires in_range { i < length self.old.graph.outputs }
-        requires live { Live self.old.graph end.vertex }
+        requires live { IsVertex self.old.graph end.vertex }
         requires plane { plane_of self.old.graph end.vertex ≡ zx.XY }
         requires free { member end.vertex (end_vertices (remove self.old.graph.outputs i)) ≡ false }
         ensures ok { self.new.graph ≡ record self.old.graph { outputs = slice_set self.old.graph.outputs i end } }
@@ -157,7 +157,7 @@ impl OpenGraph {
 
     /// Removes a vertex without ends, and its edges.
     pub fn remove_vertex(&mut self, v: VertexId)
-        requires live { Live self.old.graph v }
+        requires live { IsVertex self.old.graph v }
         requires interior { Interior self.old.graph v }
         ensures ok { IsRemoval self.old.graph v self.new.graph }
         ensures room { self.new.room ≡ with_place self.old.room }
@@ -169,8 +169,8 @@ impl OpenGraph {
     /// Adds the edge between two vertices where there is none, and takes it out where there is one. Where memory runs
     /// out the graph stays as it was; below the reach none is needed.
     pub fn toggle_edge(&mut self, u: VertexId, v: VertexId) -> Result<(), AllocError>
-        requires u_live { Live self.old.graph u }
-        requires v_live { Live self.old.graph v }
+        requires u_live { IsVertex self.old.graph u }
+        requires v_live { IsVertex self.old.graph v }
         requires different { u ≢ v }
         ensures ok { OnOk result (IsToggle self.old.graph u v self.new.graph) }
         ensures err { OnErr result (self.new.graph ≡ self.old.graph) }
@@ -185,8 +185,8 @@ impl OpenGraph {
     /// where it is one either way round. Where memory runs out the graph is left empty, with its reach;
     /// below the reach none is needed.
     pub fn toggle_across(&mut self, left: &VertexSet, right: &VertexSet) -> Result<(), AllocError>
-        requires left_live { (p : ℕ) → member p left.now.ids ≡ true → Live self.old.graph p }
-        requires right_live { (p : ℕ) → member p right.now.ids ≡ true → Live self.old.graph p }
+        requires left_live { (p : ℕ) → member p left.now.ids ≡ true → IsVertex self.old.graph p }
+        requires right_live { (p : ℕ) → member p right.now.ids ≡ true → IsVertex self.old.graph p }
         ensures ok { OnOk result
             (IsToggled self.old.graph (across left.now.ids right.now.ids) self.new.graph) }
         ensures err { OnErr result (self.new.graph ≡
@@ -214,7 +214,7 @@ impl OpenGraph {
     /// Toggles each edge between two of these vertices. Where memory runs out the graph is left empty,
     /// with its reach; below the reach none is needed.
     pub fn toggle_among(&mut self, vertices: &VertexSet) -> Result<(), AllocError>
-        requires { (p : ℕ) → member p vertices.now.ids ≡ true → Live self.old.graph p }
+        requires { (p : ℕ) → member p vertices.now.ids ≡ true → IsVertex self.old.graph p }
         ensures ok { OnOk result (IsToggled self.old.graph (among vertices.now.ids) self.new.graph) }
         ensures err { OnErr result (self.new.graph ≡
             record { vertices = []; edges = []; inputs = []; outputs = [] }) }
@@ -240,7 +240,7 @@ impl OpenGraph {
     /// Toggles each edge between two neighbours of a vertex. Where memory runs out the graph is left
     /// empty, with its reach; where its neighbours are below the reach none is needed.
     pub fn toggle_neighbours(&mut self, u: VertexId) -> Result<(), AllocError>
-        requires { Live self.old.graph u }
+        requires { IsVertex self.old.graph u }
         ensures ok { OnOk result
             (IsToggled self.old.graph (among (zx.neighbours self.old.graph u)) self.new.graph) }
         ensures err { OnErr result (self.new.graph ≡
@@ -268,8 +268,8 @@ impl OpenGraph {
     /// all, where it is one either way round. Where memory runs out the graph is left empty, with its
     /// reach; below the reach none is needed.
     pub fn toggle_around(&mut self, u: VertexId, v: VertexId) -> Result<(), AllocError>
-        requires u_live { Live self.old.graph u }
-        requires v_live { Live self.old.graph v }
+        requires u_live { IsVertex self.old.graph u }
+        requires v_live { IsVertex self.old.graph v }
         ensures ok { let near = u ∷ zx.neighbours self.old.graph u in
             let far = v ∷ zx.neighbours self.old.graph v in
             OnOk result (IsToggled self.old.graph (across near far) self.new.graph) }
@@ -303,7 +303,7 @@ impl OpenGraph {
 
     /// Gives a vertex another plane and phase. A vertex with an end stays XY.
     pub fn set_weight(&mut self, v: VertexId, plane: Plane, phase: Sixteenth)
-        requires live { Live self.old.graph v }
+        requires live { IsVertex self.old.graph v }
         requires plane { is_interior self.old.graph v ≡ false → plane_named plane ≡ zx.XY }
         ensures ok { self.new.graph ≡ record self.old.graph {
           vertices = with_kinds (at_vertex v (λ _. in_plane (plane_named plane) phase)) self.old.graph.vertices;
@@ -316,7 +316,7 @@ impl OpenGraph {
 
     /// Turns a vertex by a quarter about the Z axis.
     pub fn add_quarter(&mut self, v: VertexId)
-        requires { Live self.old.graph v }
+        requires { IsVertex self.old.graph v }
         ensures ok { self.new.graph ≡ record self.old.graph {
           vertices = with_kinds (at_vertex v quarter_turned) self.old.graph.vertices;
         } }
@@ -331,7 +331,7 @@ impl OpenGraph {
     /// Turns each neighbour of a vertex about the Z axis, and answers the power of z that the sum gets by
     /// that, in sixteenth turns.
     pub fn turn_neighbours(&mut self, u: VertexId, turn: Turn) -> Sixteenth
-        requires { Live self.old.graph u }
+        requires { IsVertex self.old.graph u }
         ensures ok { self.new.graph ≡ record self.old.graph {
           vertices = with_kinds (turned_in turn (zx.neighbours self.old.graph u)) self.old.graph.vertices;
         } }
@@ -348,7 +348,7 @@ impl OpenGraph {
     pub fn reserve(&mut self, vertices: usize) -> Result<(), AllocError>
         ensures same { self.new.graph ≡ self.old.graph }
         ensures room { OnOk result (IsAtLeast (record { spare = vertices; reach = vertices }) self.new.room) }
-        ensures reach { OnOk result ((v : ℕ) → Live self.old.graph v →
+        ensures reach { OnOk result ((v : ℕ) → IsVertex self.old.graph v →
             v + vertices < self.new.room.reach) }
         ensures keeps_room { IsAtLeast self.old.room self.new.room }
         ensures valid { WellFormed self.new.graph }
@@ -434,7 +434,7 @@ impl OpenGraph {
 
     /// Whether an edge joins two vertices.
     pub fn has_edge(&self, u: VertexId, v: VertexId) -> bool
-        requires { Live self.now.graph u }
+        requires { IsVertex self.now.graph u }
         ensures value { result ≡ joined self.now.graph.edges u v }
         ensures valid { WellFormed self.now.graph }
     {
@@ -443,7 +443,7 @@ impl OpenGraph {
 
     /// The vertices adjacent to a vertex, by rising id.
     pub fn neighbours(&self, v: VertexId) -> Ids<'_>
-        requires { Live self.now.graph v }
+        requires { IsVertex self.now.graph v }
         ensures value { result ≡ zx.neighbours self.now.graph v }
         ensures valid { WellFormed self.now.graph }
     {
@@ -452,9 +452,9 @@ impl OpenGraph {
 
     /// The vertices adjacent to a vertex, as a set.
     pub fn neighbour_set(&self, v: VertexId) -> &VertexSet
-        requires { Live self.now.graph v }
+        requires { IsVertex self.now.graph v }
         ensures members { (p : ℕ) → member p result.now.ids ≡ joined self.now.graph.edges v p }
-        ensures live { (p : ℕ) → member p result.now.ids ≡ true → Live self.now.graph p }
+        ensures live { (p : ℕ) → member p result.now.ids ≡ true → IsVertex self.now.graph p }
         ensures valid { WellFormed self.now.graph }
     {
         &self.slot(v).row
@@ -462,7 +462,7 @@ impl OpenGraph {
 
     /// How many vertices are adjacent to a vertex.
     pub fn degree(&self, v: VertexId) -> usize
-        requires { Live self.now.graph v }
+        requires { IsVertex self.now.graph v }
         ensures value { result ≡ length (zx.neighbours self.now.graph v) }
         ensures valid { WellFormed self.now.graph }
     {
@@ -471,9 +471,9 @@ impl OpenGraph {
 
     /// The adjacent vertex of the least id that isn't below a number.
     pub fn neighbour_from(&self, v: VertexId, start: usize) -> Option<VertexId>
-        requires { Live self.now.graph v }
+        requires { IsVertex self.now.graph v }
         ensures first { IsFirstFrom (joined self.now.graph.edges v) start result }
-        ensures live { IfSome result (λ w. Live self.now.graph w) }
+        ensures live { IfSome result (λ w. IsVertex self.now.graph w) }
         ensures bounded { IfSome result (λ w. w < usize.MAX) }
         ensures valid { WellFormed self.now.graph }
     {
@@ -482,7 +482,7 @@ impl OpenGraph {
 
     /// Plane and phase of a vertex.
     pub fn weight(&self, v: VertexId) -> (Plane, Sixteenth)
-        requires { Live self.now.graph v }
+        requires { IsVertex self.now.graph v }
         ensures value { in_plane (plane_named result.0) result.1 ≡ kind_of self.now.graph.vertices v }
         ensures valid { WellFormed self.now.graph }
     {
@@ -492,7 +492,7 @@ impl OpenGraph {
 
     /// Whether a vertex has neither an input nor an output.
     pub fn is_interior(&self, v: VertexId) -> bool
-        requires { Live self.now.graph v }
+        requires { IsVertex self.now.graph v }
         ensures value { result ≡ is_interior self.now.graph v }
         ensures valid { WellFormed self.now.graph }
     {
@@ -510,7 +510,7 @@ impl OpenGraph {
 
     /// The place of a vertex's input among the inputs, where it has one.
     pub fn input_at(&self, v: VertexId) -> Option<usize>
-        requires { Live self.now.graph v }
+        requires { IsVertex self.now.graph v }
         ensures found { is_some result ≡ member v (end_vertices self.now.graph.inputs) }
         ensures place { IfSome result (λ i. slice_get (end_vertices self.now.graph.inputs) i ≡ Some v) }
         ensures valid { WellFormed self.now.graph }
@@ -520,7 +520,7 @@ impl OpenGraph {
 
     /// The place of a vertex's output among the outputs, where it has one.
     pub fn output_at(&self, v: VertexId) -> Option<usize>
-        requires { Live self.now.graph v }
+        requires { IsVertex self.now.graph v }
         ensures found { is_some result ≡ member v (end_vertices self.now.graph.outputs) }
         ensures place { IfSome result (λ i. slice_get (end_vertices self.now.graph.outputs) i ≡ Some v) }
         ensures valid { WellFormed self.now.graph }
@@ -615,7 +615,7 @@ impl OpenGraph {
 
     // What is kept of a vertex.
     fn slot(&self, v: VertexId) -> &Slot
-        requires { Live self.now.graph v }
+        requires { IsVertex self.now.graph v }
         ensures { Tells self.now.graph v result.now }
     {
         &self.slots[v.get()]

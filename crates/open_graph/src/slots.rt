@@ -4,7 +4,7 @@ ghost use Rattle.std.specs.Prelude.{ltb, ◌≡◌, ◌≢◌, ◌<◌, ◌+◌,
 ghost use Rattle.zx_model.specs.Bits.{member};
 ghost use Rattle.open_graph.specs.Internal.Table.{slot_at, HasSlot};
 ghost use Rattle.zx_calculus.specs.Turns.{in_plane};
-ghost use Rattle.zx_calculus.specs.Graph.{in_order, Graph, Live, WellFormed, Distinct};
+ghost use Rattle.zx_calculus.specs.Graph.{in_order, Graph, IsVertex, WellFormed, Distinct};
 ghost use Rattle.zx_calculus.proofs.Ids.{removed};
 ghost use Rattle.zx_calculus.proofs.EditPrograms.{toggled};
 ghost use Rattle.open_graph.specs.Planes.{plane_named};
@@ -154,7 +154,7 @@ pub(crate) fn toggle(
     requires v_live { HasSlot slots.old v }
     requires different { u ≢ v }
     requires symmetric { adjacent slots.old.slots u v ≡ adjacent slots.old.slots v u }
-    ensures ok { OnOk result ((h : Graph) → WellFormed h → Live h u → Live h v
+    ensures ok { OnOk result ((h : Graph) → WellFormed h → IsVertex h u → IsVertex h v
         → Stores slots.old.slots h → Stores slots.new.slots (toggled h u v)) }
     ensures err { OnErr result (SameTold slots.old.slots slots.new.slots) }
     ensures room { KeepsRoom reach slots.old.slots slots.new.slots }

@@ -3,7 +3,7 @@
 ghost use Rattle.std.specs.Prelude.{◌≡◌, ◌==◌, ◌&&◌, ◌||◌, ℕ, true, map, IfOk, OnOk};
 ghost use Rattle.zx_model.specs.Bits.{xor};
 ghost use Rattle.zx_model.specs.Phase.{half_turn};
-ghost use Rattle.zx_calculus.specs.Graph.{joined, is_XY, is_XZ, plane_of, phase_of, Live};
+ghost use Rattle.zx_calculus.specs.Graph.{joined, is_XY, is_XZ, plane_of, phase_of, IsVertex};
 ghost use Rattle.zx_calculus.specs.Steps.{FuseInto, allowed};
 ghost use Rattle.graph_rewrites.specs.Steps.{step_named};
 ghost use Rattle.teleport_laws.specs.Shifts.{negates, into_of};
@@ -72,7 +72,7 @@ fn negated_near(
     u: VertexId,
 ) -> Result<Vec<VertexId>, AllocError>
     requires allowed { allowed graph.now.graph (step_named step.now) ≡ true }
-    requires live { Live graph.now.graph u }
+    requires live { IsVertex graph.now.graph u }
     ensures { IfOk result (λ found. (v : ℕ) → stands_odd found.items v ≡
         (((v == u) || joined graph.now.graph.edges u v)
         && negates graph.now.graph (step_named step.now) v)) }
@@ -93,7 +93,7 @@ fn add_if_negated(
     v: VertexId,
 ) -> Result<(), AllocError>
     requires allowed { allowed graph.now.graph (step_named step.now) ≡ true }
-    requires live { Live graph.now.graph v }
+    requires live { IsVertex graph.now.graph v }
     ensures { OnOk result ((w : ℕ) → stands_odd found.new.items w ≡
         xor (stands_odd found.old.items w)
         ((w == v) && negates graph.now.graph (step_named step.now) v)) }
@@ -107,7 +107,7 @@ fn add_if_negated(
 // Whether a step negates the phase of a vertex.
 fn is_negated(graph: &OpenGraph, step: &Step, v: VertexId) -> bool
     requires allowed { allowed graph.now.graph (step_named step.now) ≡ true }
-    requires live { Live graph.now.graph v }
+    requires live { IsVertex graph.now.graph v }
     ensures { result ≡ negates graph.now.graph (step_named step.now) v }
 {
     match step {
@@ -129,7 +129,7 @@ fn is_negated(graph: &OpenGraph, step: &Step, v: VertexId) -> bool
 }
 
 fn is_xz(graph: &OpenGraph, v: VertexId) -> bool
-    requires { Live graph.now.graph v }
+    requires { IsVertex graph.now.graph v }
     ensures { result ≡ is_XZ (plane_of graph.now.graph v) }
 {
     let (plane, _) = graph.weight(v);
@@ -137,7 +137,7 @@ fn is_xz(graph: &OpenGraph, v: VertexId) -> bool
 }
 
 fn is_xy(graph: &OpenGraph, v: VertexId) -> bool
-    requires { Live graph.now.graph v }
+    requires { IsVertex graph.now.graph v }
     ensures { result ≡ is_XY (plane_of graph.now.graph v) }
 {
     let (plane, _) = graph.weight(v);
@@ -145,7 +145,7 @@ fn is_xy(graph: &OpenGraph, v: VertexId) -> bool
 }
 
 fn has_half_turn(graph: &OpenGraph, v: VertexId) -> bool
-    requires { Live graph.now.graph v }
+    requires { IsVertex graph.now.graph v }
     ensures { result ≡ (phase_of graph.now.graph v == half_turn) }
 {
     let (_, phase) = graph.weight(v);

@@ -10,7 +10,7 @@ use Rattle.std.specs.Char.{is_ascii_digit}
 use Rattle.std.specs.List.{position, position_or_len}
 use Rattle.std.specs.Option.{unwrap_or}
 use Rattle.qasm_angle.specs.Ratio.{lowest, limited}
-use Rattle.qasm_angle.specs.Literals.{digits_of, number_from, number_of, significant, most_significant, decimal, is_negative, size_of, places_of, value_of_parts}
+use Rattle.qasm_angle.specs.Literals.{digits_of, number_from, number_of, significant, most_significant, decimal, is_negative, exponent_size, places_of, value_of_parts}
 use Rattle.qasm_angle.proofs.DecimalLemmas.{ten_pow_mono, none-small, none-raised, raised-scaled, zero-scaled}
 
 -- the place of a mark, or the end
@@ -118,9 +118,9 @@ size-done size most bytes all i small h e =
     let rest = ap (λ ds. min (number_from size (digits_of ds)) most) (drop_of_length-le bytes h) in
     omega (arith, rest, e)
 
-module _ (mantissa exponent : List ℕ) (size places most : ℕ) (is_size : size ≡ min (size_of exponent) most) (is_places : places ≡ places_of mantissa) where
+module _ (mantissa exponent : List ℕ) (size places most : ℕ) (is_size : size ≡ min (exponent_size exponent) most) (is_places : places ≡ places_of mantissa) where
   pub value-negative : is_negative exponent ≡ true → length mantissa + 19 ≤ most → decimal (digits_of mantissa) 0 (size + places) ≡ value_of_parts mantissa exponent
-  value-negative negative h = rw (is_size, is_places, negative) (lowered_saturated mantissa (size_of exponent) (places_of mantissa) most h)
+  value-negative negative h = rw (is_size, is_places, negative) (lowered_saturated mantissa (exponent_size exponent) (places_of mantissa) most h)
 
   pub value-positive : is_negative exponent ≡ false → places + 19 ≤ most → decimal (digits_of mantissa) size places ≡ value_of_parts mantissa exponent
-  value-positive positive h = rw (is_size, positive, is_places) (raised_saturated mantissa (size_of exponent) (places_of mantissa) most (rw is_places at h))
+  value-positive positive h = rw (is_size, positive, is_places) (raised_saturated mantissa (exponent_size exponent) (places_of mantissa) most (rw is_places at h))

@@ -64,8 +64,8 @@ abbrev pub is_negative : List ℕ → Bool
 is_negative exponent = (slice_index exponent 0 == 45)
 
 -- the size of an exponent
-abbrev pub size_of : List ℕ → ℕ
-size_of exponent = number_of (digits_of exponent)
+abbrev pub exponent_size : List ℕ → ℕ
+exponent_size exponent = number_of (digits_of exponent)
 
 -- how many digits stand after the point
 abbrev pub places_of : List ℕ → ℕ
@@ -74,8 +74,8 @@ places_of mantissa = length (digits_of (after is_point mantissa))
 -- the value of digits with a point, and an exponent with its sign
 abbrev pub value_of_parts : List ℕ → List ℕ → Option Ratio
 value_of_parts mantissa exponent =
-    if is_negative exponent then decimal (digits_of mantissa) 0 (places_of mantissa + size_of exponent)
-    else decimal (digits_of mantissa) (size_of exponent) (places_of mantissa)
+    if is_negative exponent then decimal (digits_of mantissa) 0 (places_of mantissa + exponent_size exponent)
+    else decimal (digits_of mantissa) (exponent_size exponent) (places_of mantissa)
 
 -- the value of a number; none where it is past the limits
 unfoldable pub literal_value : List ℕ → Option Ratio

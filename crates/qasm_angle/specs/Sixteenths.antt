@@ -26,5 +26,5 @@ abbrev pub within_a_turn : ℤ → ℕ
 within_a_turn n = unsigned_abs (int_rem_euclid n (pos turn))
 
 -- the phase of an angle that is a whole number of sixteenth turns
-unfoldable pub phase_of : Angle → Option ℕ
-phase_of a = option_map within_a_turn (sixteenths_of a)
+unfoldable pub phase_of_angle : Angle → Option ℕ
+phase_of_angle a = option_map within_a_turn (sixteenths_of a)

@@ -8,7 +8,7 @@ ghost use Rattle.qasm_angle.specs.Literals.{literal_value};
 ghost use Rattle.qasm_angle.specs.Trees.{Tree, Number, Pi, Negate, Binary, postfix, tree_of};
 ghost use Rattle.qasm_angle.specs.Values.{value};
 ghost use Rattle.zx_model.specs.Phase.{eighth_turn, opposite_phase};
-ghost use Rattle.qasm_angle.specs.Sixteenths.{IsSixteenths, phase_of};
+ghost use Rattle.qasm_angle.specs.Sixteenths.{IsSixteenths, phase_of_angle};
 ghost use Rattle.qasm_angle.specs.Worked.{ratio, numeral, of_pi};
 ghost use Rattle.qasm_angle.specs.declared.angle.Angle.{Angle};
 ghost use Rattle.qasm_angle.specs.declared.errors.AngleFault.TheVariants as cause;
@@ -88,16 +88,16 @@ pub fn worked_angles()
 {}
 
 /// Angles and their phases.
-#[tactic(auto, unfolding(crate::specs::Sixteenths::phase_of))]
+#[tactic(auto, unfolding(crate::specs::Sixteenths::phase_of_angle))]
 pub fn worked_phases()
-    ensures zero { phase_of (of_pi (pos 0) 1) ≡ Some 0 }
-    ensures quarter { phase_of (of_pi (pos 1) 4) ≡ Some eighth_turn }
-    ensures minus_quarter { phase_of (of_pi (neg_ℤ (pos 1)) 4) ≡ Some (opposite_phase eighth_turn) }
-    ensures seven_quarters { phase_of (of_pi (pos 7) 4) ≡ Some (opposite_phase eighth_turn) }
-    ensures nine_quarters { phase_of (of_pi (pos 9) 4) ≡ Some eighth_turn }
-    ensures eighth { phase_of (of_pi (pos 1) 8) ≡ Some 1 }
-    ensures minus_eighth { phase_of (of_pi (neg_ℤ (pos 1)) 8) ≡ Some 15 }
-    ensures sixteenth { phase_of (of_pi (pos 1) 16) ≡ None }
-    ensures rational { phase_of (record { rational = ratio (pos 1) 1; multiple = ratio (pos 1) 4 })
+    ensures zero { phase_of_angle (of_pi (pos 0) 1) ≡ Some 0 }
+    ensures quarter { phase_of_angle (of_pi (pos 1) 4) ≡ Some eighth_turn }
+    ensures minus_quarter { phase_of_angle (of_pi (neg_ℤ (pos 1)) 4) ≡ Some (opposite_phase eighth_turn) }
+    ensures seven_quarters { phase_of_angle (of_pi (pos 7) 4) ≡ Some (opposite_phase eighth_turn) }
+    ensures nine_quarters { phase_of_angle (of_pi (pos 9) 4) ≡ Some eighth_turn }
+    ensures eighth { phase_of_angle (of_pi (pos 1) 8) ≡ Some 1 }
+    ensures minus_eighth { phase_of_angle (of_pi (neg_ℤ (pos 1)) 8) ≡ Some 15 }
+    ensures sixteenth { phase_of_angle (of_pi (pos 1) 16) ≡ None }
+    ensures rational { phase_of_angle (record { rational = ratio (pos 1) 1; multiple = ratio (pos 1) 4 })
         ≡ None }
 {}

@@ -2,7 +2,7 @@
 
 ghost use Rattle.std.specs.Prelude.{◌≡◌, ◌+◌, ◌-◌, ◌^◌, ◌≤◌, List, ℕ, ◌∷◌, length, drop, position, min};
 ghost use Rattle.std.specs.List.{position_or_len};
-ghost use Rattle.qasm_angle.specs.Literals.{is_point, is_exponent_mark, is_negative, size_of, places_of, decimal, digits_of, number_from, value_of_parts, literal_value};
+ghost use Rattle.qasm_angle.specs.Literals.{is_point, is_exponent_mark, is_negative, exponent_size, places_of, decimal, digits_of, number_from, value_of_parts, literal_value};
 
 use crate::fraction::Fraction;
 use crate::scaling::scaled;
@@ -151,7 +151,7 @@ fn is_negative(exponent: &[u8]) -> bool
 
 // The size of an exponent, or the largest number where that is larger.
 fn size(exponent: &[u8]) -> u64
-    ensures { result ≡ min (size_of exponent.now) (2 ^ 64 - 1) }
+    ensures { result ≡ min (exponent_size exponent.now) (2 ^ 64 - 1) }
 {
     let mut size: u64 = 0;
     for b in exponent {

@@ -2,7 +2,7 @@
 
 ghost use Rattle.std.specs.Prelude.{◌≡◌, ℤ, IfSome, IfNone};
 ghost use Rattle.qasm_angle.specs.Ratio.{IsFraction};
-ghost use Rattle.qasm_angle.specs.Sixteenths.{IsSixteenths, sixteenths_of_multiple, sixteenths_of, phase_of, within_a_turn};
+ghost use Rattle.qasm_angle.specs.Sixteenths.{IsSixteenths, sixteenths_of_multiple, sixteenths_of, phase_of_angle, within_a_turn};
 
 use crate::angle::Angle;
 use crate::fraction::{Fraction, cross};
@@ -10,9 +10,9 @@ use zx_model::Sixteenth;
 
 /// The phase of an angle that is a whole number of sixteenth turns, modulo a whole turn; none for
 /// other angles.
-#[tactic(auto, unfolding(crate::specs::Sixteenths::phase_of))]
+#[tactic(auto, unfolding(crate::specs::Sixteenths::phase_of_angle))]
 pub fn to_sixteenth(a: &Angle) -> Option<Sixteenth>
-    ensures phase { result ≡ phase_of a.now }
+    ensures phase { result ≡ phase_of_angle a.now }
     ensures some { IfSome result (λ phase. (n : ℤ) × IsSixteenths a.now n
         × (phase ≡ within_a_turn n)) }
     ensures none { IfNone result ((n : ℤ) → IsSixteenths a.now n → ⊥) }

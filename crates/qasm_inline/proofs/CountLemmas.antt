@@ -6,7 +6,7 @@ use Rattle.std.proofs.lemmas.Bool.Decides.{nat_tests}
 use Rattle.std.proofs.lemmas.List.{length-append}
 use Rattle.zx_gates.specs.declared.elementary.Measure.{Measure}
 use Rattle.qasm_angle.specs.declared.angle.Angle.{Angle}
-use Rattle.qasm_angle.specs.Sixteenths.{phase_of}
+use Rattle.qasm_angle.specs.Sixteenths.{phase_of_angle}
 use Rattle.qasm_reader.specs.Syntax.{Callee, Declared, U, Cx, GateForm, BodySentence, BodyApplied, BodyBarrier}
 use Rattle.qasm_reader.specs.Syntax.{Applied, Measured, Reset, Sentence, Version, Include, QubitRegister, BitRegister, DeclareGate, Opaque, If, Barrier, Act, Placed}
 use Rattle.qasm_scope.specs.declared.causes.Cause.{Cause}
@@ -47,7 +47,7 @@ u-few [] qubits = omega arith
 u-few (theta ∷ []) qubits = omega arith
 u-few (theta ∷ phi ∷ []) qubits = omega arith
 u-few (theta ∷ phi ∷ lambda ∷ []) [] = omega arith
-u-few (theta ∷ phi ∷ lambda ∷ []) (q ∷ []) = u_of-few q (phase_of theta) (phase_of phi) (phase_of lambda)
+u-few (theta ∷ phi ∷ lambda ∷ []) (q ∷ []) = u_of-few q (phase_of_angle theta) (phase_of_angle phi) (phase_of_angle lambda)
 u-few (theta ∷ phi ∷ lambda ∷ []) (q ∷ r ∷ qubits) = omega arith
 u-few (theta ∷ phi ∷ lambda ∷ more ∷ angles) qubits = omega arith
 

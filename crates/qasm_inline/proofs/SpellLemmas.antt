@@ -9,7 +9,7 @@ use Rattle.std.proofs.lemmas.List.{length-map, map-append, take-append-drop, tak
 use Rattle.qasm_lexer.specs.declared.token.TokenKind.{TokenKind}
 use Rattle.qasm_lexer.specs.declared.token.TokenKind.TheVariants as kind
 use Rattle.qasm_lexer.specs.Forms.{begins, following, is_natural, is_space, is_word, is_word_byte}
-use Rattle.qasm_lexer.specs.Tokens.{ArePieces, IsPiece, Lexeme, kind_in, kind_of, signs, tokens_in, word_kind, words}
+use Rattle.qasm_lexer.specs.Tokens.{ArePieces, IsPiece, Lexeme, kind_in, token_kind, signs, tokens_in, word_kind, words}
 use Rattle.qasm_lexer.specs.Internal.FirstPiece.{is_plain}
 use Rattle.qasm_lexer.specs.Internal.Moved.{moved}
 use Rattle.qasm_lexer.proofs.Cuts.{IsCutUpTo-none, IsCutUpTo-then, form_some}
@@ -61,7 +61,7 @@ pub spelled-nothing : (text : List ℕ) → IsSpelled AreNone text text
 spelled-nothing text from place = record { tokens = []; cut = IsCutUpTo-none place text; are = refl; flat = tt }
 
 -- ---- pieces
-one-token : (piece after : List ℕ) (k : TokenKind) → IsPiece piece after × (kind_of piece ≡ Some k) → open_after 0 k ≡ 0 → IsSpelled (Word k piece) (piece ++ after) after
+one-token : (piece after : List ℕ) (k : TokenKind) → IsPiece piece after × (token_kind piece ≡ Some k) → open_after 0 k ≡ 0 → IsSpelled (Word k piece) (piece ++ after) after
 one-token piece after k p flat from place = record {
   tokens = record { kind = k; text = piece; place = place } ∷ [];
   cut = record {

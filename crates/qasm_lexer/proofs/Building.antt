@@ -10,7 +10,7 @@ use Rattle.qasm_lexer.specs.declared.token.TokenKind.{TokenKind}
 use Rattle.qasm_lexer.specs.declared.token.TokenKind.TheVariants.{Natural}
 use Rattle.std.specs.Char.{is_ascii_digit, is_ascii_alphabetic}
 use Rattle.qasm_lexer.specs.Forms.{begins, is_space, is_word_byte, is_word, is_natural}
-use Rattle.qasm_lexer.specs.Tokens.{signs, kind_in, kind_of, word_kind, IsPiece, Lexeme, IsCut}
+use Rattle.qasm_lexer.specs.Tokens.{signs, kind_in, token_kind, word_kind, IsPiece, Lexeme, IsCut}
 use Rattle.qasm_lexer.specs.Internal.FirstPiece.{is_plain}
 use Rattle.qasm_lexer.proofs.Pieces as pieces
 use Rattle.qasm_lexer.proofs.Pieces.{ends_number, ends_sign, ends_sign-plain}
@@ -23,9 +23,9 @@ IsCut-nil place = IsCutUpTo-none place []
 -- a piece before a cut
 piece_before : (place : ℕ) (piece after : List ℕ) (tokens : List Lexeme) → IsPiece piece after → IsCut (place + length piece) after tokens
     → IsCut place (piece ++ after)
-    (option_to_list (option_map (λ kind. record { kind = kind; text = piece; place = place }) (kind_of piece)) ++ tokens)
+    (option_to_list (option_map (λ kind. record { kind = kind; text = piece; place = place }) (token_kind piece)) ++ tokens)
 piece_before place piece after tokens p c =
-    let here : List Lexeme = option_to_list (option_map (λ kind. record { kind = kind; text = piece; place = place }) (kind_of piece)) in
+    let here : List Lexeme = option_to_list (option_map (λ kind. record { kind = kind; text = piece; place = place }) (token_kind piece)) in
     record {
       pieces = piece ∷ c.pieces;
       whole = ap (λ r. piece ++ r) c.whole ∙ sym (append_assoc piece (concat c.pieces) []);
@@ -33,13 +33,13 @@ piece_before place piece after tokens p c =
       tokens_are = ap (λ r. here ++ r) c.tokens_are;
     }
 
-pub IsCut-token : (place : ℕ) (piece after : List ℕ) (kind : TokenKind) (tokens : List Lexeme) → IsPiece piece after × (kind_of piece ≡ Some kind)
+pub IsCut-token : (place : ℕ) (piece after : List ℕ) (kind : TokenKind) (tokens : List Lexeme) → IsPiece piece after × (token_kind piece ≡ Some kind)
     → IsCut (place + length piece) after tokens → IsCut place (piece ++ after) (record { kind = kind; text = piece; place = place } ∷ tokens)
 IsCut-token place piece after kind tokens p c =
     subst (λ o. IsCut place (piece ++ after) (option_to_list (option_map (λ kind. record { kind = kind; text = piece; place = place }) o) ++ tokens)) p.1
     (piece_before place piece after tokens p.0 c)
 
-pub IsCut-blank : (place : ℕ) (piece after : List ℕ) (tokens : List Lexeme) → IsPiece piece after → kind_of piece ≡ None
+pub IsCut-blank : (place : ℕ) (piece after : List ℕ) (tokens : List Lexeme) → IsPiece piece after → token_kind piece ≡ None
     → IsCut (place + length piece) after tokens → IsCut place (piece ++ after) tokens
 IsCut-blank place piece after tokens p none c =
     subst (λ o. IsCut place (piece ++ after) (option_to_list (option_map (λ kind. record { kind = kind; text = piece; place = place }) o) ++ tokens)) none

@@ -5,7 +5,7 @@ use Rattle.std.specs.Option.{option_map, option_to_list}
 use Rattle.std.proofs.lemmas.Bool.{false≢true}
 use Rattle.std.proofs.lemmas.List.{drop_at, take_at, nil_from_length}
 use Rattle.qasm_lexer.specs.declared.token.TokenKind.{TokenKind}
-use Rattle.qasm_lexer.specs.Tokens.{is_form, kind_of, IsPiece, ArePieces, Lexeme, tokens_in, IsCutUpTo, IsCut, HasNoPiece, IsBadByte, AreInPlace}
+use Rattle.qasm_lexer.specs.Tokens.{is_form, token_kind, IsPiece, ArePieces, Lexeme, tokens_in, IsCutUpTo, IsCut, HasNoPiece, IsBadByte, AreInPlace}
 use Rattle.qasm_lexer.proofs.Leads.{IsLongest, piece_form}
 
 pub form_some : (form : List ℕ) → is_form form ≡ true → 0 < length form
@@ -83,7 +83,7 @@ pub tokens_in-append : (place : ℕ) (ps qs : List (List ℕ))
     → tokens_in place (ps ++ qs) ≡ tokens_in place ps ++ tokens_in (place + length (concat ps)) qs
 tokens_in-append place [] qs = ap (λ k. tokens_in k qs) (omega arith)
 tokens_in-append place (p ∷ ps) qs =
-    let here : List Lexeme = option_to_list (option_map (λ kind. record { kind = kind; text = p; place = place }) (kind_of p)) in
+    let here : List Lexeme = option_to_list (option_map (λ kind. record { kind = kind; text = p; place = place }) (token_kind p)) in
     let e : (place + length p) + length (concat ps) ≡ place + length (p ++ concat ps) = omega (arith, length-append p (concat ps)) in
     ap (λ r. here ++ r) (tokens_in-append (place + length p) ps qs)
     ∙ sym (append_assoc here (tokens_in (place + length p) ps) (tokens_in ((place + length p) + length (concat ps)) qs))
@@ -151,7 +151,7 @@ module _ (text : List ℕ) where
       ap (λ r. take (place + length p - place) r) there ∙ take_at p (concat ps ++ rest) (place + length p - place) (omega arith) in
       let on : text ≡ (start ++ p) ++ (concat ps ++ rest) =
       e ∙ ap (λ r. start ++ r) (append_assoc p (concat ps) rest) ∙ sym (append_assoc start p (concat ps ++ rest)) in
-      in_place_here (kind_of p) p from place (tokens_in (place + length p) ps) le is
+      in_place_here (token_kind p) p from place (tokens_in (place + length p) ps) le is
       (λ next h. in_place_from ps (start ++ p) rest next (place + length p) on (omega (arith, length-append start p)) h)
 
 pub in_place : (text : List ℕ) (tokens : List Lexeme) → IsCut 0 text tokens → AreInPlace 0 text tokens

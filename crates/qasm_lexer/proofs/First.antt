@@ -10,7 +10,7 @@ use Rattle.qasm_lexer.specs.declared.token.TokenKind.{TokenKind}
 use Rattle.qasm_lexer.specs.declared.token.TokenKind.TheVariants.{Real, Natural, Text}
 use Rattle.std.specs.Char.{is_ascii_digit, is_ascii_alphabetic}
 use Rattle.qasm_lexer.specs.Forms.{following, begins, is_space, is_no_feed, is_word_byte, is_comment, is_natural, is_closed}
-use Rattle.qasm_lexer.specs.Tokens.{signs, kind_in, kind_of, word_kind, is_blank, IsPiece, ArePieces, tokens_in, IsCutUpTo}
+use Rattle.qasm_lexer.specs.Tokens.{signs, kind_in, token_kind, word_kind, is_blank, IsPiece, ArePieces, tokens_in, IsCutUpTo}
 use Rattle.qasm_lexer.specs.Internal.FirstPiece.{first_piece, word_piece, as_token, number_piece, number, point_piece, text_piece, closing, is_plain, plain_piece, sign_piece, two_or_one, is_inside, fraction_len, naturals, natural_tokens, piece_tokens}
 use Rattle.qasm_lexer.proofs.Runs.{prefix, prefix-following, prefix_len-prefix, take-prefix, drop-following, prefix_passes, after_stops, after_through, begins_some, begins_append}
 use Rattle.qasm_lexer.proofs.Reals.{real_fits, fraction_fits}
@@ -49,10 +49,10 @@ module _ (b : ℕ) (p after text : List ℕ) (count : ℕ) (whole : (b ∷ p) ++
     tokens_are = tokens;
   }
 
-  one_blank : IsPiece (b ∷ p) after → kind_of (b ∷ p) ≡ None → IsFirst text Blank count
+  one_blank : IsPiece (b ∷ p) after → token_kind (b ∷ p) ≡ None → IsFirst text Blank count
   one_blank is kind = one_piece Blank is (λ place. rw kind refl)
 
-  one_token : (k : TokenKind) → IsPiece (b ∷ p) after × (kind_of (b ∷ p) ≡ Some k) → IsFirst text (Token k) count
+  one_token : (k : TokenKind) → IsPiece (b ∷ p) after × (token_kind (b ∷ p) ≡ Some k) → IsFirst text (Token k) count
   one_token k is = one_piece (Token k) is.0 (λ place. rw is.1 refl)
 
 white_first : (b : ℕ) (t : List ℕ) → is_space b ≡ true → IsFirst (b ∷ t) Blank 1
@@ -68,14 +68,14 @@ word_by_kind b t n e n_is None is =
     let l : lead b ≡ letter = lead-letter b e in
     let longest : IsLongest (b ∷ p) (following is_word_byte t) =
     pieces.word_longest b p (following is_word_byte t) e (prefix_passes is_word_byte t) (after_stops is_word_byte t) in
-    let kind : kind_of (b ∷ p) ≡ None = kind-word (b ∷ p) (and_from (is_ascii_alphabetic b) (list_all is_word_byte p) e (prefix_passes is_word_byte t)) ∙ is in
+    let kind : token_kind (b ∷ p) ≡ None = kind-word (b ∷ p) (and_from (is_ascii_alphabetic b) (list_all is_word_byte p) e (prefix_passes is_word_byte t)) ∙ is in
     let blank : is_blank (b ∷ p) ≡ false = no_blank b p (λ m. cc) (λ m. cc) in
     λ form after f piece.
     let same : form ≡ b ∷ p =
     (same_longest form (b ∷ p) after (following is_word_byte t) (f ∙ ap (λ r. b ∷ r) (sym (prefix-following is_word_byte t)))
     (piece_form form after piece)
     (word_form (b ∷ p) (and_from (is_ascii_alphabetic b) (list_all is_word_byte p) e (prefix_passes is_word_byte t))) piece.longest longest).0 in
-    let taken : (is_blank (b ∷ p) || is_some (kind_of (b ∷ p))) ≡ true = subst (λ r. (is_blank r || is_some (kind_of r)) ≡ true) same piece.taken in
+    let taken : (is_blank (b ∷ p) || is_some (token_kind (b ∷ p))) ≡ true = subst (λ r. (is_blank r || is_some (token_kind r)) ≡ true) same piece.taken in
     false≢true (rw (blank, kind) at taken)
 
 word_first : (b : ℕ) (t : List ℕ) → is_ascii_alphabetic b ≡ true → IsFirstPiece (b ∷ t) (word_piece (b ∷ t))
@@ -105,7 +105,7 @@ record AreNaturals (ps : List (List ℕ)) (after : List ℕ) : Type 0 where
   pub each : ArePieces ps after
   pub tokens : (place : ℕ) → tokens_in place ps ≡ natural_tokens place ps
 
-natural_before : (p : List ℕ) (ps : List (List ℕ)) (after : List ℕ) → IsPiece p (concat ps ++ after) × (kind_of p ≡ Some Natural) → AreNaturals ps after
+natural_before : (p : List ℕ) (ps : List (List ℕ)) (after : List ℕ) → IsPiece p (concat ps ++ after) × (token_kind p ≡ Some Natural) → AreNaturals ps after
     → AreNaturals (p ∷ ps) after
 natural_before p ps after is more = record {
   each = (is.0, more.each);
@@ -118,8 +118,8 @@ naturals_are (d ∷ ds) after all ends = elim (cases_Bool (eqb d 48)) [
   | inl z ↦
       (let tail : list_all is_ascii_digit ds ≡ true = (and_parts (is_ascii_digit d) (list_all is_ascii_digit ds) all).1 in
       rw z (natural_before (d ∷ []) (naturals ds) after
-      (subst (λ x. IsPiece (x ∷ []) (concat (naturals ds) ++ after) × (kind_of (x ∷ []) ≡ Some Natural)) (sym (eqb-true d 48 z))
-      (subst (λ x. IsPiece (48 ∷ []) (x ++ after) × (kind_of (48 ∷ []) ≡ Some Natural)) (sym (concat-naturals ds)) (pieces.zero_piece ds after tail ends)))
+      (subst (λ x. IsPiece (x ∷ []) (concat (naturals ds) ++ after) × (token_kind (x ∷ []) ≡ Some Natural)) (sym (eqb-true d 48 z))
+      (subst (λ x. IsPiece (48 ∷ []) (x ++ after) × (token_kind (48 ∷ []) ≡ Some Natural)) (sym (concat-naturals ds)) (pieces.zero_piece ds after tail ends)))
       (naturals_are ds after tail ends)))
   | inr z ↦
       rw z (natural_before (d ∷ ds) [] after

@@ -10,7 +10,7 @@ use Rattle.std.specs.Char.{is_ascii_digit, is_ascii_alphabetic}
 use Rattle.std.specs.Int.{is_in_range}
 use Rattle.qasm_lexer.specs.Forms.{following, begins, is_space, is_no_feed, is_word_byte, is_empty, is_white, is_comment, is_word, is_natural, is_real, is_fraction, is_exponent, is_text, is_closed}
 use Rattle.qasm_lexer.specs.declared.token.TokenKind.TheVariants.{Real, Natural, Text}
-use Rattle.qasm_lexer.specs.Tokens.{signs, kind_in, kind_of, word_kind, is_blank, is_form, IsPiece}
+use Rattle.qasm_lexer.specs.Tokens.{signs, kind_in, token_kind, word_kind, is_blank, is_form, IsPiece}
 
 pub data Lead : Type 0 where
   white : Lead
@@ -367,17 +367,17 @@ module _ (c : ℕ) (o : List ℕ) where
 
 -- the kind of a form of each sort
 module _ (form : List ℕ) where
-  pub kind-word : is_word form ≡ true → kind_of form ≡ word_kind form
+  pub kind-word : is_word form ≡ true → token_kind form ≡ word_kind form
   kind-word e = rw e refl
 
-  pub kind-real : is_word form ≡ false → is_real form ≡ true → kind_of form ≡ Some Real
+  pub kind-real : is_word form ≡ false → is_real form ≡ true → token_kind form ≡ Some Real
   kind-real e f = rw (e, f) refl
 
-  pub kind-natural : is_word form ≡ false → is_real form ≡ false → is_natural form ≡ true → kind_of form ≡ Some Natural
+  pub kind-natural : is_word form ≡ false → is_real form ≡ false → is_natural form ≡ true → token_kind form ≡ Some Natural
   kind-natural e f g = rw (e, f, g) refl
 
-  pub kind-text : is_word form ≡ false → is_real form ≡ false → is_natural form ≡ false → is_text form ≡ true → kind_of form ≡ Some Text
+  pub kind-text : is_word form ≡ false → is_real form ≡ false → is_natural form ≡ false → is_text form ≡ true → token_kind form ≡ Some Text
   kind-text e f g h = rw (e, f, g, h) refl
 
-  pub kind-sign : is_word form ≡ false → is_real form ≡ false → is_natural form ≡ false → is_text form ≡ false → kind_of form ≡ kind_in signs form
+  pub kind-sign : is_word form ≡ false → is_real form ≡ false → is_natural form ≡ false → is_text form ≡ false → token_kind form ≡ kind_in signs form
   kind-sign e f g h = rw (e, f, g, h) refl

@@ -7,7 +7,7 @@ use Rattle.std.proofs.lemmas.List.Elements.{All-nil, All-cons}
 use Rattle.std.proofs.Math.Seq.{drop-append-add}
 use Rattle.qasm_lexer.specs.declared.token.Token.{Token}
 use Rattle.qasm_lexer.specs.declared.token.TokenKind.{TokenKind}
-use Rattle.qasm_lexer.specs.Tokens.{is_form, kind_of, IsPiece, ArePieces, Lexeme, lexemes, tokens_in, IsCut, IsCutUpTo, HasNoPiece, IsBadByte}
+use Rattle.qasm_lexer.specs.Tokens.{is_form, token_kind, IsPiece, ArePieces, Lexeme, lexemes, tokens_in, IsCut, IsCutUpTo, HasNoPiece, IsBadByte}
 use Rattle.qasm_lexer.specs.Internal.Moved.{moved}
 use Rattle.qasm_lexer.specs.Taken.{AreLines, IsLineBegun}
 use Rattle.qasm_lexer.proofs.Leads.{IsLongest, piece_form}
@@ -71,8 +71,8 @@ tokens_in-moved : (k place : ℕ) (ps : List (List ℕ)) → map (moved k) (toke
 tokens_in-moved k place [] = refl
 tokens_in-moved k place (p ∷ ps) =
     let e : k + (place + length p) ≡ (k + place) + length p = omega arith in
-    moved_here k place p (kind_of p) (tokens_in (place + length p) ps)
-    ∙ ap (λ r. option_to_list (option_map (λ kind. record { kind = kind; text = p; place = k + place }) (kind_of p)) ++ r)
+    moved_here k place p (token_kind p) (tokens_in (place + length p) ps)
+    ∙ ap (λ r. option_to_list (option_map (λ kind. record { kind = kind; text = p; place = k + place }) (token_kind p)) ++ r)
     (tokens_in-moved k (place + length p) ps ∙ ap (λ n. tokens_in n ps) e)
 
 moved_cut : (k : ℕ) (text rest : List ℕ) (tokens : List Lexeme) → IsCutUpTo 0 text rest tokens → IsCutUpTo k text rest (map (moved k) tokens)
@@ -132,7 +132,7 @@ within_here n place piece (Some kind) more le all = (le, all)
 within_pieces : (n place : ℕ) (ps : List (List ℕ)) → place + length (concat ps) ≤ n → AreWithin n (tokens_in place ps)
 within_pieces n place [] le = tt
 within_pieces n place (p ∷ ps) le =
-    within_here n place p (kind_of p) (tokens_in (place + length p) ps) (omega (arith, le))
+    within_here n place p (token_kind p) (tokens_in (place + length p) ps) (omega (arith, le))
     (within_pieces n (place + length p) ps (omega (arith, le, length-append p (concat ps))))
 
 within_behind : (n : ℕ) (before more : List Lexeme) → AreWithin n (before ++ more) → AreWithin n more

@@ -8,7 +8,7 @@ use Rattle.qasm_lexer.specs.declared.token.TokenKind.{TokenKind}
 use Rattle.qasm_lexer.specs.declared.token.TokenKind.TheVariants.{Real, Natural, Text}
 use Rattle.std.specs.Char.{is_ascii_digit, is_ascii_alphabetic}
 use Rattle.qasm_lexer.specs.Forms.{following, begins, is_space, is_no_feed, is_word_byte, is_white, is_comment, is_natural, is_real, is_fraction, is_exponent, is_text, is_closed, is_empty}
-use Rattle.qasm_lexer.specs.Tokens.{signs, kind_in, kind_of, word_kind, is_blank, is_form, IsPiece}
+use Rattle.qasm_lexer.specs.Tokens.{signs, kind_in, token_kind, word_kind, is_blank, is_form, IsPiece}
 use Rattle.qasm_lexer.specs.Internal.FirstPiece.{is_inside, fraction_len, is_plain}
 use Rattle.qasm_lexer.proofs.Runs.{run_longest, prefix_len_through, after_through, after_stopped, after_all}
 use Rattle.qasm_lexer.proofs.Reals.{real_longest, real_is, real_fits, begins_fraction, fraction_longest, fraction_is, fraction_fits}
@@ -34,8 +34,8 @@ run_stopped test o rest p after e f g stop =
       stopped [] e = refl
       stopped (b ∷ rest) e = rw e refl
 
-taken_by_kind : (form : List ℕ) (kind : TokenKind) → kind_of form ≡ Some kind → (is_blank form || is_some (kind_of form)) ≡ true
-taken_by_kind form kind e = or_right (is_blank form) (is_some (kind_of form)) (ap is_some e)
+taken_by_kind : (form : List ℕ) (kind : TokenKind) → token_kind form ≡ Some kind → (is_blank form || is_some (token_kind form)) ≡ true
+taken_by_kind form kind e = or_right (is_blank form) (is_some (token_kind form)) (ap is_some e)
 
 -- a byte of white space
 pub white_piece : (b : ℕ) (after : List ℕ) → is_space b ≡ true → IsPiece (b ∷ []) after
@@ -43,10 +43,10 @@ white_piece b after e =
     let w : is_blank (b ∷ []) ≡ true = or_left (is_white (b ∷ [])) (is_comment (b ∷ [])) (and_from (is_space b) true e refl) in
     record {
       longest = longest_by b [] after (λ o rest t s. omega (arith, ap length (white_only b o (lead-space b e) s)));
-      taken = or_left (is_blank (b ∷ [])) (is_some (kind_of (b ∷ []))) w;
+      taken = or_left (is_blank (b ∷ [])) (is_some (token_kind (b ∷ []))) w;
     }
 
-pub white_kind : (b : ℕ) → is_space b ≡ true → kind_of (b ∷ []) ≡ None
+pub white_kind : (b : ℕ) → is_space b ≡ true → token_kind (b ∷ []) ≡ None
 white_kind b e =
     let l : lead b ≡ white = lead-space b e in
     kind-sign (b ∷ []) (no_word b [] (λ m. cc)) (no_real b [] (λ m. cc) (λ m. cc)) (no_natural b [] (λ m. cc)) (no_text b [] (λ m. cc))
@@ -62,7 +62,7 @@ comment_piece p after e stop =
         | inl f ↦ run_stopped is_no_feed o rest (47 ∷ p) after t (no_feed o f) e stop
         | inr f ↦ omega (arith, f.0)
       ]);
-      taken = or_left (is_blank (47 ∷ 47 ∷ p)) (is_some (kind_of (47 ∷ 47 ∷ p))) w;
+      taken = or_left (is_blank (47 ∷ 47 ∷ p)) (is_some (token_kind (47 ∷ 47 ∷ p))) w;
     } where
       no_feed : (o : List ℕ) → is_comment (47 ∷ o) ≡ true → list_all is_no_feed o ≡ true
       no_feed [] f = absurd (false≢true f)
@@ -78,9 +78,9 @@ word_longest b p after e all stop =
     run_stopped is_word_byte o rest p after t (and_parts (is_word_byte b) (list_all is_word_byte o) (letter_only b o (lead-letter b e) s)).1 all stop)
 
 pub word_piece : (b : ℕ) (p after : List ℕ) (kind : TokenKind) → is_ascii_alphabetic b ≡ true → list_all is_word_byte p ≡ true → begins is_word_byte after ≡ false
-    → word_kind (b ∷ p) ≡ Some kind → IsPiece (b ∷ p) after × (kind_of (b ∷ p) ≡ Some kind)
+    → word_kind (b ∷ p) ≡ Some kind → IsPiece (b ∷ p) after × (token_kind (b ∷ p) ≡ Some kind)
 word_piece b p after kind e all stop is =
-    let k : kind_of (b ∷ p) ≡ Some kind = kind-word (b ∷ p) (and_from (is_ascii_alphabetic b) (list_all is_word_byte p) e all) ∙ is in
+    let k : token_kind (b ∷ p) ≡ Some kind = kind-word (b ∷ p) (and_from (is_ascii_alphabetic b) (list_all is_word_byte p) e all) ∙ is in
     (record { longest = word_longest b p after e all stop; taken = taken_by_kind (b ∷ p) kind k }, k)
 
 -- what doesn't go on as a number: no digit and no point
@@ -101,7 +101,7 @@ no_real_here some form rest ds after e all ends real =
     sym (after_stopped is_ascii_digit after (ends_digits after ends)) ∙ sym (after_through is_ascii_digit ds after all) ∙ ap (following is_ascii_digit) (sym e) ∙ r.1 in
     false≢true (let k : ends_number (46 ∷ r.0) ≡ true = subst (λ s. ends_number s ≡ true) is ends in k)
 
-natural_kind : (b : ℕ) (p : List ℕ) → list_all is_ascii_digit (b ∷ p) ≡ true → is_natural (b ∷ p) ≡ true → kind_of (b ∷ p) ≡ Some Natural
+natural_kind : (b : ℕ) (p : List ℕ) → list_all is_ascii_digit (b ∷ p) ≡ true → is_natural (b ∷ p) ≡ true → token_kind (b ∷ p) ≡ Some Natural
 natural_kind b p all e =
     let l : lead b ≡ digit = lead-digit b (and_parts (is_ascii_digit b) (list_all is_ascii_digit p) all).0 in
     let r : is_real (b ∷ p) ≡ false = ap (is_fraction (begins is_ascii_digit (b ∷ p))) (after_all is_ascii_digit (b ∷ p) all) in
@@ -109,10 +109,10 @@ natural_kind b p all e =
 
 -- a natural, before what doesn't go on as a number
 pub natural_piece : (b : ℕ) (p after : List ℕ) → list_all is_ascii_digit (b ∷ p) ≡ true → is_natural (b ∷ p) ≡ true → ends_number after ≡ true
-    → IsPiece (b ∷ p) after × (kind_of (b ∷ p) ≡ Some Natural)
+    → IsPiece (b ∷ p) after × (token_kind (b ∷ p) ≡ Some Natural)
 natural_piece b p after all e ends =
     let d : (is_ascii_digit b ≡ true) × (list_all is_ascii_digit p ≡ true) = and_parts (is_ascii_digit b) (list_all is_ascii_digit p) all in
-    let k : kind_of (b ∷ p) ≡ Some Natural = natural_kind b p all e in (
+    let k : token_kind (b ∷ p) ≡ Some Natural = natural_kind b p all e in (
       record {
         longest = longest_by b p after (λ o rest t s. elim (digit_only b o (lead-digit b d.0) s) [
           | inl r ↦ absurd (no_real_here (begins is_ascii_digit (b ∷ o)) (b ∷ o) rest (b ∷ p) after (ap (λ x. b ∷ x) t) all ends r)
@@ -125,7 +125,7 @@ natural_piece b p after all e ends =
 
 -- a zero, before digits that no point follows
 pub zero_piece : (ds after : List ℕ) → list_all is_ascii_digit ds ≡ true → ends_number after ≡ true
-    → IsPiece (48 ∷ []) (ds ++ after) × (kind_of (48 ∷ []) ≡ Some Natural)
+    → IsPiece (48 ∷ []) (ds ++ after) × (token_kind (48 ∷ []) ≡ Some Natural)
 zero_piece ds after all ends = (
   record {
     longest = longest_by 48 [] (ds ++ after) (λ o rest t s. elim (digit_only 48 o refl s) [
@@ -166,10 +166,10 @@ closed_run (c ∷ q) e =
 
 -- a text, whatever follows
 pub text_piece : (q after : List ℕ) → list_all is_inside q ≡ true
-    → IsPiece (34 ∷ (q ++ 34 ∷ [])) after × (kind_of (34 ∷ (q ++ 34 ∷ [])) ≡ Some Text)
+    → IsPiece (34 ∷ (q ++ 34 ∷ [])) after × (token_kind (34 ∷ (q ++ 34 ∷ [])) ≡ Some Text)
 text_piece q after e =
     let f : is_text (34 ∷ (q ++ 34 ∷ [])) ≡ true = closed_run q e in
-    let k : kind_of (34 ∷ (q ++ 34 ∷ [])) ≡ Some Text = kind-text (34 ∷ (q ++ 34 ∷ [])) refl refl refl f in (
+    let k : token_kind (34 ∷ (q ++ 34 ∷ [])) ≡ Some Text = kind-text (34 ∷ (q ++ 34 ∷ [])) refl refl refl f in (
       record {
         longest = longest_by 34 (q ++ 34 ∷ []) after (λ o rest t s. no_longer o rest t (quote_only 34 o refl s));
         taken = taken_by_kind (34 ∷ (q ++ 34 ∷ [])) Text k;
@@ -203,7 +203,7 @@ ends_sign-plain a (b ∷ rest) e =
     and_from (not (eqb a 47 && eqb b 47)) (is_none (kind_in signs (a ∷ b ∷ []))) (rw p.1 refl)
     (none_since (kind_in signs (a ∷ b ∷ [])) (λ s. both_ways (eqb a 45 || eqb a 61) p.0 (table_all begins_long signs refl (a ∷ b ∷ []) s)))
 
-sign_kind : (a : ℕ) (p : List ℕ) → lead a ≡ other → kind_of (a ∷ p) ≡ kind_in signs (a ∷ p)
+sign_kind : (a : ℕ) (p : List ℕ) → lead a ≡ other → token_kind (a ∷ p) ≡ kind_in signs (a ∷ p)
 sign_kind a p l = kind-sign (a ∷ p) (no_word a p (λ m. cc)) (no_real a p (λ m. cc) (λ m. cc)) (no_natural a p (λ m. cc)) (no_text a p (λ m. cc))
 
 no_comment : (a b : ℕ) (o : List ℕ) → is_comment (a ∷ b ∷ o) ≡ true → (eqb a 47 && eqb b 47) ≡ true
@@ -229,10 +229,10 @@ longer_sign a (d ∷ o) rest (b ∷ after) t e f =
 
 -- a sign of one byte
 pub short_sign_piece : (a : ℕ) (after : List ℕ) (kind : TokenKind) → kind_in signs (a ∷ []) ≡ Some kind → ends_sign a after ≡ true
-    → IsPiece (a ∷ []) after × (kind_of (a ∷ []) ≡ Some kind)
+    → IsPiece (a ∷ []) after × (token_kind (a ∷ []) ≡ Some kind)
 short_sign_piece a after kind e ends =
     let l : lead a ≡ other = (sign_lead a [] (ap is_some e)).0 in
-    let k : kind_of (a ∷ []) ≡ Some kind = sign_kind a [] l ∙ e in (
+    let k : token_kind (a ∷ []) ≡ Some kind = sign_kind a [] l ∙ e in (
       record {
         longest = longest_by a [] after
             (λ o rest t s. omega (arith, ap length (longer_sign a o rest after t ends (other_only a o l s))));
@@ -243,10 +243,10 @@ short_sign_piece a after kind e ends =
 
 -- a sign of two bytes
 pub long_sign_piece : (a b : ℕ) (after : List ℕ) (kind : TokenKind) → kind_in signs (a ∷ b ∷ []) ≡ Some kind → (eqb a 47 && eqb b 47) ≡ false
-    → IsPiece (a ∷ b ∷ []) after × (kind_of (a ∷ b ∷ []) ≡ Some kind)
+    → IsPiece (a ∷ b ∷ []) after × (token_kind (a ∷ b ∷ []) ≡ Some kind)
 long_sign_piece a b after kind e apart =
     let l : lead a ≡ other = (sign_lead a (b ∷ []) (ap is_some e)).0 in
-    let k : kind_of (a ∷ b ∷ []) ≡ Some kind = sign_kind a (b ∷ []) l ∙ e in (
+    let k : token_kind (a ∷ b ∷ []) ≡ Some kind = sign_kind a (b ∷ []) l ∙ e in (
       record {
         longest = longest_by a (b ∷ []) after (λ o rest t s. elim (other_only a o l s) [
           | inl c ↦ absurd (comment_here o rest t c)
@@ -264,11 +264,11 @@ long_sign_piece a b after kind e apart =
 
 -- a real with digits before its point
 pub real_piece : (b : ℕ) (u r : List ℕ) (n : ℕ) → is_ascii_digit b ≡ true → following is_ascii_digit (b ∷ u) ≡ 46 ∷ r → n ≡ prefix_len is_ascii_digit (b ∷ u) + fraction_len r
-    → IsPiece (b ∷ take n u) (drop n u) × (kind_of (b ∷ take n u) ≡ Some Real)
+    → IsPiece (b ∷ take n u) (drop n u) × (token_kind (b ∷ take n u) ≡ Some Real)
 real_piece b u r n d is n_is =
     let f : is_real (b ∷ take n u) ≡ true = subst (λ k. is_real (b ∷ take k u) ≡ true) (sym n_is) (real_is (b ∷ u) r d is) in
     let l : lead b ≡ digit = lead-digit b d in
-    let k : kind_of (b ∷ take n u) ≡ Some Real = kind-real (b ∷ take n u) (no_word b (take n u) (λ m. cc)) f in (
+    let k : token_kind (b ∷ take n u) ≡ Some Real = kind-real (b ∷ take n u) (no_word b (take n u) (λ m. cc)) f in (
       record {
         longest = longest_by b (take n u) (drop n u) (λ o rest t s.
             no_longer o rest (ap (λ x. b ∷ x) (t ∙ take-append-drop n u)) (digit_only b o l s));
@@ -294,11 +294,11 @@ real_piece b u r n d is n_is =
 
 -- a real with none
 pub point_piece : (r : List ℕ) → begins is_ascii_digit r ≡ true
-    → IsPiece (46 ∷ take (fraction_len r) r) (drop (fraction_len r) r) × (kind_of (46 ∷ take (fraction_len r) r) ≡ Some Real)
+    → IsPiece (46 ∷ take (fraction_len r) r) (drop (fraction_len r) r) × (token_kind (46 ∷ take (fraction_len r) r) ≡ Some Real)
 point_piece r e =
     let x : List ℕ = take (fraction_len r) r in
     let f : is_real (46 ∷ x) ≡ true = and_from (begins is_ascii_digit x) (is_exponent (following is_ascii_digit x)) (begins_fraction r e) (fraction_is r) in
-    let k : kind_of (46 ∷ x) ≡ Some Real = kind-real (46 ∷ x) refl f in (
+    let k : token_kind (46 ∷ x) ≡ Some Real = kind-real (46 ∷ x) refl f in (
       record {
         longest = longest_by 46 x (drop (fraction_len r) r) (λ o rest t s.
             omega (arith, fraction_longest o rest (point_only 46 o refl s).1, ap fraction_len (t ∙ take-append-drop (fraction_len r) r), length-take-le (fraction_len r) r (fraction_fits r)));

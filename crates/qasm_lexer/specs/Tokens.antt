@@ -46,8 +46,8 @@ abbrev pub word_kind : List ℕ → Option TokenKind
 word_kind word = option_or (kind_in words word) (if begins is_ascii_lowercase word then Some Identifier else None)
 
 -- the kind of token that a form is; none for white space, comments, and words that are no token
-abbrev pub kind_of : List ℕ → Option TokenKind
-kind_of form =
+abbrev pub token_kind : List ℕ → Option TokenKind
+token_kind form =
     if is_word form then word_kind form else
     if is_real form then Some Real else
     if is_natural form then Some Natural else
@@ -63,7 +63,7 @@ is_form form =
 
 -- a blank or a token, and the longest form at the start of what begins with it and goes on with `after`
 pub record IsPiece (form after : List ℕ) : Type 0 where
-  pub taken : IsTrue (is_blank form || is_some (kind_of form))
+  pub taken : IsTrue (is_blank form || is_some (token_kind form))
   pub longest : (other rest : List ℕ) → other ++ rest ≡ form ++ after → IsTrue (is_form other) →
       length other ≤ length form
 
@@ -88,7 +88,7 @@ lexemes tokens = map lexeme tokens
 abbrev pub tokens_in : ℕ → List (List ℕ) → List Lexeme
 tokens_in place [] = []
 tokens_in place (piece ∷ pieces) =
-    option_to_list (option_map (λ kind. record { kind = kind; text = piece; place = place }) (kind_of piece))
+    option_to_list (option_map (λ kind. record { kind = kind; text = piece; place = place }) (token_kind piece))
     ++ tokens_in (place + length piece) pieces
 
 -- up to the rest, the text is pieces, and these are the tokens among them

@@ -35,14 +35,14 @@ abbrev pub register_sizes : List Range → List ℕ
 register_sizes ranges = filter_map register_size ranges
 
 -- the qubit or bit that stands for a range at an index
-abbrev pub place_at : ℕ → Range → ℕ
-place_at index (Single place) = place
-place_at index (Register first size) = first + index
+abbrev pub element_at : ℕ → Range → ℕ
+element_at index (Single place) = place
+element_at index (Register first size) = first + index
 
 -- the instances, by rising index: one for each index of the registers, which have one size, or one alone
 abbrev pub instances : List Range → List (List ℕ)
 instances ranges =
-    map (λ index. map (place_at index) ranges) (range_with_len 0 (get_or (register_sizes ranges) 0 1))
+    map (λ index. map (element_at index) ranges) (range_with_len 0 (get_or (register_sizes ranges) 0 1))
 
 -- one of a list is the same, by this test, as a later one
 abbrev pub has_twice : {A : Type 0} → (A → A → Bool) → List A → Bool

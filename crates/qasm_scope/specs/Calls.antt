@@ -7,7 +7,7 @@ use Rattle.std.specs.Str.{bytes_eq}
 use Rattle.zx_gates.specs.declared.elementary.ElementaryGate.{ElementaryGate}
 use Rattle.zx_gates.specs.declared.elementary.ElementaryGate.TheVariants as elementary
 use Rattle.qasm_angle.specs.declared.angle.Angle.{Angle}
-use Rattle.qasm_angle.specs.Sixteenths.{phase_of}
+use Rattle.qasm_angle.specs.Sixteenths.{phase_of_angle}
 use Rattle.qasm_reader.specs.Syntax.{Callee, Declared, U, Cx, GateForm, BodySentence, BodyApplied, BodyBarrier}
 use Rattle.qasm_scope.specs.declared.causes.Cause.{Cause}
 use Rattle.qasm_scope.specs.declared.causes.Cause.TheVariants.{NotSixteenthTurn, TooDeep, TooManyGates}
@@ -35,7 +35,8 @@ Expansion = List ℕ → ℕ → List Angle → List ℕ → List Event
 -- the same for a gate that may be built in, which comes to nothing with other numbers of angles or qubits than it has
 abbrev pub expand : Expansion → Callee → ℕ → List Angle → List ℕ → List Event
 expand declared (Declared name) depth angles qubits = declared name depth angles qubits
-expand declared U depth (theta ∷ phi ∷ lambda ∷ []) (q ∷ []) = u_of q (phase_of theta) (phase_of phi) (phase_of lambda)
+expand declared U depth (theta ∷ phi ∷ lambda ∷ []) (q ∷ []) =
+    u_of q (phase_of_angle theta) (phase_of_angle phi) (phase_of_angle lambda)
 expand declared Cx depth angles (control ∷ target ∷ []) = Applied (elementary.Cx control target) ∷ []
 expand declared gate depth angles qubits = []
 

@@ -4,7 +4,7 @@ use Rattle.std.specs.Prelude.{ℕ, ◌+◌, ◌==◌, Bool, true, false, ◌&&�
 use Rattle.std.specs.List.{list_any, range_with_len}
 use Rattle.zx_gates.specs.declared.elementary.Measure.{Measure}
 use Rattle.qasm_reader.specs.Syntax.{Operand, Sentence, Act, Measured}
-use Rattle.qasm_scope.specs.Applications.{Range, Single, Register, place_at, range_in, range_of}
+use Rattle.qasm_scope.specs.Applications.{Range, Single, Register, element_at, range_in, range_of}
 use Rattle.qasm_scope.specs.Scope.{Lookup, Scope, lookup_in}
 
 -- the register of bits that an argument names, and what the argument stands for
@@ -28,7 +28,8 @@ count_in (Register first size) = size
 -- the measurements of a range into another one, by rising index
 abbrev pub measures_of : Range → Range → List Measure
 measures_of from to =
-    map (λ index. record { qubit = place_at index from; bit = place_at index to }) (range_with_len 0 (count_in from))
+    map (λ index. record { qubit = element_at index from; bit = element_at index to })
+    (range_with_len 0 (count_in from))
 
 -- what a statement measures
 abbrev pub measured_by : Scope → Sentence → List Measure

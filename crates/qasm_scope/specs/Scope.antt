@@ -46,13 +46,13 @@ unfoldable pub numeral : List ℕ → ℕ
 numeral text = number_of (map (λ digit. digit - 48) text)
 
 -- how many qubits are declared
-abbrev pub size_of : Meaning → ℕ
-size_of (Qubits first size) = size
-size_of meaning = 0
+abbrev pub qubits_in : Meaning → ℕ
+qubits_in (Qubits first size) = size
+qubits_in meaning = 0
 
 abbrev pub qubit_count : Scope → ℕ
 qubit_count [] = 0
-qubit_count (declaration ∷ scope) = size_of declaration.meaning + qubit_count scope
+qubit_count (declaration ∷ scope) = qubits_in declaration.meaning + qubit_count scope
 
 -- how many bits are declared
 abbrev pub bits_in : Meaning → ℕ

@@ -11,7 +11,7 @@ use Rattle.qasm_scope.specs.declared.causes.Cause.{Cause}
 use Rattle.qasm_scope.specs.declared.causes.Cause.TheVariants as cause
 use Rattle.qasm_names.specs.declared.gates.CalledGate.{CalledGate}
 use Rattle.qasm_scope.specs.Angles.{is_unsupported, numbered, places_among}
-use Rattle.qasm_scope.specs.Applications.{Range, Single, Register, place_at, instances, register_of, register_sizes, ranges_of, range_in, has_twice, application_events}
+use Rattle.qasm_scope.specs.Applications.{Range, Single, Register, element_at, instances, register_of, register_sizes, ranges_of, range_in, has_twice, application_events}
 use Rattle.qasm_names.specs.AppliedGates.{IsAppliedGate, gate_faults, has_fault, is_unknown_gate}
 use Rattle.qasm_names.specs.Checks.{Symbols, lookup_by}
 use Rattle.qasm_names.specs.Kept.{IsSound, called_for, kept_names}
@@ -21,7 +21,7 @@ use Rattle.qasm_unroll.specs.Internal.KeptCalls.{expand_number}
 use Rattle.qasm_unroll.specs.Internal.KeptCalls.{called_events, values_of}
 use Rattle.qasm_scope.specs.Measurements.{holds_any, qubits_of}
 use Rattle.qasm_scope.specs.Scope.{Scope, numeral, lookup_in}
-use Rattle.qasm_unroll.specs.Internal.Spans.{any_missing, span_of, AreSpans, IsResolved, IsResolvedIn, is_unresolved, unresolved_cause, resolved_cause, cut_place_at, cut_instance, cut_instances, instances_events, instance_count}
+use Rattle.qasm_unroll.specs.Internal.Spans.{any_missing, span_of, AreSpans, IsResolved, IsResolvedIn, is_unresolved, unresolved_cause, resolved_cause, cut_element_at, cut_instance, cut_instances, instances_events, instance_count}
 use Rattle.qasm_names.proofs.CheckLemmas.{AreNames, same-kept, same-lookup, same-places}
 use Rattle.qasm_names.specs.declared.applied_gates.AppliedGate.{AppliedGate}
 use Rattle.qasm_names.specs.declared.applied_gates.GateFaults.{GateFaults}
@@ -204,16 +204,16 @@ small-count [] small = omega arith
 small-count (Single qubit ∷ ranges) small = small-count ranges small.1
 small-count (Register first size ∷ ranges) small = small.0.1
 
-pub cut-at : (t : Range) (index : ℕ) → IsSmall most_qubits t → index ≤ most_qubits → cut_place_at index t ≡ place_at index t
+pub cut-at : (t : Range) (index : ℕ) → IsSmall most_qubits t → index ≤ most_qubits → cut_element_at index t ≡ element_at index t
 cut-at (Single qubit) index small within = omega arith
 cut-at (Register first size) index small within = let few = small.0 in omega arith
 
-cut-instance : (ranges : List Range) (index : ℕ) → AreSmall ranges → index ≤ most_qubits → cut_instance ranges index ≡ map (place_at index) ranges
+cut-instance : (ranges : List Range) (index : ℕ) → AreSmall ranges → index ≤ most_qubits → cut_instance ranges index ≡ map (element_at index) ranges
 cut-instance [] index small within = refl
 cut-instance (t ∷ ranges) index small within = ap₂ (λ q qs. q ∷ qs) (cut-at t index small.0 within) (cut-instance ranges index small.1 within)
 
 cut-from : (ranges : List Range) (start n : ℕ) → AreSmall ranges → start + n ≤ most_qubits
-    → map (cut_instance ranges) (range_with_len start n) ≡ map (λ index. map (place_at index) ranges) (range_with_len start n)
+    → map (cut_instance ranges) (range_with_len start n) ≡ map (λ index. map (element_at index) ranges) (range_with_len start n)
 cut-from ranges start zero small h = refl
 cut-from ranges start (suc n) small h = ap₂ (λ q qs. q ∷ qs) (cut-instance ranges start small (omega arith)) (cut-from ranges (start + 1) n small (omega arith))
 

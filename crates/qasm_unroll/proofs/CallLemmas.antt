@@ -10,7 +10,7 @@ use Rattle.std.proofs.lemmas.List.{length-map}
 use Rattle.std.proofs.lemmas.Slice.Eq.{bytes_eq-Decides}
 use Rattle.zx_gates.specs.Elementary.{IsElementaryGateOn}
 use Rattle.qasm_angle.specs.declared.angle.Angle.{Angle}
-use Rattle.qasm_angle.specs.Sixteenths.{phase_of}
+use Rattle.qasm_angle.specs.Sixteenths.{phase_of_angle}
 use Rattle.qasm_reader.specs.Syntax.{Callee, Declared, U, Cx, GateForm, BodySentence, BodyApplied, BodyBarrier}
 use Rattle.qasm_scope.specs.declared.causes.Cause.{Cause}
 use Rattle.qasm_scope.specs.Angles.{angles_of, place_of, place_or_zero, places_among}
@@ -224,7 +224,7 @@ u-on limit [] qubits h = tt
 u-on limit (theta ∷ []) qubits h = tt
 u-on limit (theta ∷ phi ∷ []) qubits h = tt
 u-on limit (theta ∷ phi ∷ lambda ∷ []) [] h = tt
-u-on limit (theta ∷ phi ∷ lambda ∷ []) (q ∷ []) h = u_of-on limit q (phase_of theta) (phase_of phi) (phase_of lambda) h.0
+u-on limit (theta ∷ phi ∷ lambda ∷ []) (q ∷ []) h = u_of-on limit q (phase_of_angle theta) (phase_of_angle phi) (phase_of_angle lambda) h.0
 u-on limit (theta ∷ phi ∷ lambda ∷ []) (q ∷ r ∷ qubits) h = tt
 u-on limit (theta ∷ phi ∷ lambda ∷ more ∷ angles) qubits h = tt
 

@@ -12,7 +12,7 @@ use Rattle.zx_gates.specs.Elementary.{IsElementaryGateOn, IsMeasureOn, most_bits
 use Rattle.qasm_reader.specs.Syntax.{Operand, Apply, Applied, Measured, Reset, GateForm, Sentence, Version, Include, QubitRegister, BitRegister, DeclareGate, Opaque, If, Barrier, Act, Placed}
 use Rattle.qasm_scope.specs.declared.causes.Cause.{Cause}
 use Rattle.qasm_scope.specs.Angles.{angles_of, places_among}
-use Rattle.qasm_scope.specs.Applications.{Range, Single, Register, range_in, range_of, ranges_of, register_of, register_sizes, place_at, instances, has_twice, application_events}
+use Rattle.qasm_scope.specs.Applications.{Range, Single, Register, range_in, range_of, ranges_of, register_of, register_sizes, element_at, instances, has_twice, application_events}
 use Rattle.qasm_scope.specs.Calls.{call, call_count, expand_declared}
 use Rattle.qasm_scope.specs.Faults.{wrong_in, first_cause, statement_tests, has_unknown, has_other_shape, has_other_size, is_no_gate, is_no_register, is_past, shape_of, has_other_name}
 use Rattle.qasm_scope.specs.HeaderGates.{first_gates, further_gates}
@@ -147,25 +147,25 @@ same-sizes : (sizes : List ℕ) → has_other_size sizes ≡ false → list_any 
 same-sizes [] h = refl
 same-sizes (size ∷ sizes) h = ap (λ b. not b || list_any (λ other. not (other == size)) sizes) (same_number size) ∙ h
 
-qubit-below : (limit size index : ℕ) (t : Range) → index < size → RangeOn limit size t → place_at index t < limit
+qubit-below : (limit size index : ℕ) (t : Range) → index < size → RangeOn limit size t → element_at index t < limit
 qubit-below limit size index (Single qubit) h on = on
 qubit-below limit size index (Register first n) h on = let within = on.0 in let same = on.1 in omega arith
 
-qubits-below : (limit size index : ℕ) (ranges : List Range) → index < size → Each (RangeOn limit size) ranges → Each (λ q. q < limit) (map (place_at index) ranges)
+qubits-below : (limit size index : ℕ) (ranges : List Range) → index < size → Each (RangeOn limit size) ranges → Each (λ q. q < limit) (map (element_at index) ranges)
 qubits-below limit size index [] h on = tt
 qubits-below limit size index (t ∷ ranges) h on = (qubit-below limit size index t h on.0, qubits-below limit size index ranges h on.1)
 
 -- the instances of an application from an index on
 instances-on : (limit size from count : ℕ) (ranges : List Range) → from + count ≤ size → Each (RangeOn limit size) ranges
-    → list_any (has_twice ◌==◌) (map (λ index. map (place_at index) ranges) (range_with_len from count)) ≡ false
-    → Each (λ qubits. AreArguments limit qubits × (length qubits ≡ length ranges)) (map (λ index. map (place_at index) ranges) (range_with_len from count))
+    → list_any (has_twice ◌==◌) (map (λ index. map (element_at index) ranges) (range_with_len from count)) ≡ false
+    → Each (λ qubits. AreArguments limit qubits × (length qubits ≡ length ranges)) (map (λ index. map (element_at index) ranges) (range_with_len from count))
 instances-on limit size from zero ranges h on twice = tt
 instances-on limit size from (suc count) ranges h on twice = (
   (
     record { below = qubits-below limit size from ranges (omega arith) on; distinct = or-first _ _ twice },
-    length-map ranges (place_at from),
+    length-map ranges (element_at from),
   ),
-  instances-on limit size (from + 1) count ranges (omega arith) on (or-second (has_twice ◌==◌ (map (place_at from) ranges)) _ twice),
+  instances-on limit size (from + 1) count ranges (omega arith) on (or-second (has_twice ◌==◌ (map (element_at from) ranges)) _ twice),
 )
 
 calls-on : (limit : ℕ) (scope : Scope) (a : Apply) (many : List (List ℕ)) → IsSound scope → is_no_gate (shape_of (lookup_in scope) a.gate) ≡ false → has_other_shape (shape_of (lookup_in scope) a.gate) (length a.angles) (length a.qubits) ≡ false
@@ -217,7 +217,7 @@ like-size (Register first size) (Single bit) h = absurd (cc)
 like-size (Register first size) (Register other bits) h = h
 
 measures-from : (limit bits size start count : ℕ) (from to : Range) → start + count ≤ size → RangeOn limit size from → RangeOn bits size to
-    → Each (IsMeasureOn limit bits) (map (λ index. record { qubit = place_at index from; bit = place_at index to }) (range_with_len start count))
+    → Each (IsMeasureOn limit bits) (map (λ index. record { qubit = element_at index from; bit = element_at index to }) (range_with_len start count))
 measures-from limit bits size start zero from to h on on_bits = tt
 measures-from limit bits size start (suc count) from to h on on_bits = (
   record { a_qubit = qubit-below limit size start from (omega arith) on; a_bit = qubit-below bits size start to (omega arith) on_bits },

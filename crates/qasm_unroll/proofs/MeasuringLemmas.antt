@@ -10,7 +10,7 @@ use Rattle.zx_gates.specs.Circuit.{most_qubits}
 use Rattle.zx_gates.specs.Elementary.{most_bits}
 use Rattle.zx_gates.specs.declared.elementary.Measure.{Measure}
 use Rattle.qasm_reader.specs.Syntax.{Operand, Act, Measured as MeasuredAs}
-use Rattle.qasm_scope.specs.Applications.{Range, Single, Register, place_at, range_of, register_of}
+use Rattle.qasm_scope.specs.Applications.{Range, Single, Register, element_at, range_of, register_of}
 use Rattle.qasm_scope.specs.declared.causes.Cause.{Cause}
 use Rattle.qasm_scope.specs.declared.causes.Cause.TheVariants as cause
 use Rattle.qasm_scope.specs.Faults.{is_no_register, is_past, wrong_behind, wrong_in}
@@ -104,12 +104,12 @@ wrong-found symbols scope measured from to qubits bits h sound by =
     ∙ ap₂ (found_cause measured) (sym (found-qubits scope from to qubits bits sound found)) (sym (found-bits scope from to qubits bits sound found))
 
 -- ---- numbers that are cut off
-cut-bit : (t : Range) (index : ℕ) → IsSmall most_bits t → index ≤ most_qubits → min (place_at index t) (2 ^ 32 - 1) ≡ place_at index t
+cut-bit : (t : Range) (index : ℕ) → IsSmall most_bits t → index ≤ most_qubits → min (element_at index t) (2 ^ 32 - 1) ≡ element_at index t
 cut-bit (Single bit) index small within = omega arith
 cut-bit (Register first size) index small within = let few = small.0 in omega arith
 
 cut-from : (from to : Range) (start n : ℕ) → IsSmall most_qubits from → IsSmall most_bits to → start + n ≤ most_qubits
-    → map (cut_measure from to) (range_with_len start n) ≡ map (λ index. record { qubit = place_at index from; bit = place_at index to }) (range_with_len start n)
+    → map (cut_measure from to) (range_with_len start n) ≡ map (λ index. record { qubit = element_at index from; bit = element_at index to }) (range_with_len start n)
 cut-from from to start zero small small_bits h = refl
 cut-from from to start (suc n) small small_bits h =
     ap₂ (λ m ms. m ∷ ms) (ap₂ (λ (q : ℕ) (b : ℕ). record { qubit = q; bit = b }) (cut-at from start small (omega arith)) (cut-bit to start small_bits (omega arith)))

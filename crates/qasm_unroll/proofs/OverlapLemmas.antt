@@ -2,7 +2,7 @@
 use Rattle.std.proofs.Common.{◌≡◌, ℕ, zero, suc, ◌+◌, ◌==◌, nat_lt, Bool, true, false, ◌&&◌, ◌||◌, List, [], ◌∷◌, map, refl, sym, ap, ap₂, ◌∙◌, arith}
 use Rattle.std.specs.List.{list_any, range_with_len}
 use Rattle.std.proofs.lemmas.Bool.Decides.{nat_tests}
-use Rattle.qasm_scope.specs.Applications.{Range, Single, Register, place_at, has_twice}
+use Rattle.qasm_scope.specs.Applications.{Range, Single, Register, element_at, has_twice}
 use Rattle.qasm_unroll.specs.Internal.Spans.{is_within, overlaps, any_overlap}
 use Rattle.qasm_names.proofs.Tests.{any_map, any_or, list_any-same}
 
@@ -34,7 +34,7 @@ any-within : (qubit first start n : ℕ) → list_any (λ i. qubit == first + i)
 any-within qubit first start zero = grind (arith, nat_tests)
 any-within qubit first start (suc n) = ap (λ b. (qubit == first + start) || b) (any-within qubit first (start + 1) n) ∙ grind (arith, nat_tests)
 
-pub overlaps-any : (count : ℕ) (t u : Range) → list_any (λ i. place_at i u == place_at i t) (range_with_len 0 count) ≡ overlaps count t u
+pub overlaps-any : (count : ℕ) (t u : Range) → list_any (λ i. element_at i u == element_at i t) (range_with_len 0 count) ≡ overlaps count t u
 overlaps-any count (Single qubit) (Single same) = any-constant (same == qubit) 0 count
 overlaps-any count (Single qubit) (Register first size) =
     list_any-same (λ i. first + i == qubit) (λ i. qubit == first + i) (range_with_len 0 count) (λ i. grind (arith, nat_tests))
@@ -46,20 +46,20 @@ overlaps-any count (Register first size) (Register same size') =
 
 -- one range against others
 against : (count : ℕ) (t : Range) (ranges : List Range)
-    → list_any (λ i. list_any (λ m. m == place_at i t) (map (place_at i) ranges)) (range_with_len 0 count) ≡ list_any (overlaps count t) ranges
+    → list_any (λ i. list_any (λ m. m == element_at i t) (map (element_at i) ranges)) (range_with_len 0 count) ≡ list_any (overlaps count t) ranges
 against count t ranges =
-    list_any-same _ (λ i. list_any (λ u. place_at i u == place_at i t) ranges) (range_with_len 0 count) (λ i. any_map (λ m. m == place_at i t) (place_at i) ranges)
-    ∙ any-exchange (λ i u. place_at i u == place_at i t) (range_with_len 0 count) ranges
+    list_any-same _ (λ i. list_any (λ u. element_at i u == element_at i t) ranges) (range_with_len 0 count) (λ i. any_map (λ m. m == element_at i t) (element_at i) ranges)
+    ∙ any-exchange (λ i u. element_at i u == element_at i t) (range_with_len 0 count) ranges
     ∙ list_any-same _ (overlaps count t) ranges (overlaps-any count t)
 
 twice-in : (count : ℕ) (ranges : List Range)
-    → list_any (λ i. has_twice ◌==◌ (map (place_at i) ranges)) (range_with_len 0 count) ≡ any_overlap count ranges
+    → list_any (λ i. has_twice ◌==◌ (map (element_at i) ranges)) (range_with_len 0 count) ≡ any_overlap count ranges
 twice-in count [] = any-none (range_with_len 0 count)
 twice-in count (t ∷ ranges) =
-    any_or (λ i. list_any (λ m. m == place_at i t) (map (place_at i) ranges)) (λ i. has_twice ◌==◌ (map (place_at i) ranges)) (range_with_len 0 count)
+    any_or (λ i. list_any (λ m. m == element_at i t) (map (element_at i) ranges)) (λ i. has_twice ◌==◌ (map (element_at i) ranges)) (range_with_len 0 count)
     ∙ ap₂ (λ a b. a || b) (against count t ranges) (twice-in count ranges)
 
 -- a qubit stands twice in an instance where two ranges overlap
 pub twice-overlap : (count : ℕ) (ranges : List Range)
-    → any_overlap count ranges ≡ list_any (has_twice ◌==◌) (map (λ i. map (place_at i) ranges) (range_with_len 0 count))
-twice-overlap count ranges = sym (any_map (has_twice ◌==◌) (λ i. map (place_at i) ranges) (range_with_len 0 count) ∙ twice-in count ranges)
+    → any_overlap count ranges ≡ list_any (has_twice ◌==◌) (map (λ i. map (element_at i) ranges) (range_with_len 0 count))
+twice-overlap count ranges = sym (any_map (has_twice ◌==◌) (λ i. map (element_at i) ranges) (range_with_len 0 count) ∙ twice-in count ranges)

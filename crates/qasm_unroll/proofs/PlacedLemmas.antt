@@ -5,7 +5,7 @@ use Rattle.std.specs.Str.{bytes_eq}
 use Rattle.std.proofs.lemmas.List.{map-append}
 use Rattle.std.proofs.lemmas.Bool.Decides.{nat_tests}
 use Rattle.qasm_angle.specs.declared.angle.Angle.{Angle}
-use Rattle.qasm_angle.specs.Sixteenths.{phase_of}
+use Rattle.qasm_angle.specs.Sixteenths.{phase_of_angle}
 use Rattle.qasm_reader.specs.Syntax.{Callee, Declared, U, Cx, GateForm, BodySentence, BodyApplied, BodyBarrier}
 use Rattle.qasm_scope.specs.declared.causes.Cause.{Cause}
 use Rattle.qasm_scope.specs.declared.causes.Cause.TheVariants.{TooDeep, TooManyGates}
@@ -31,7 +31,7 @@ u-renamed f [] qubits = refl
 u-renamed f (theta ∷ []) qubits = refl
 u-renamed f (theta ∷ phi ∷ []) qubits = refl
 u-renamed f (theta ∷ phi ∷ lambda ∷ []) [] = refl
-u-renamed f (theta ∷ phi ∷ lambda ∷ []) (q ∷ []) = u_of-renamed f q (phase_of theta) (phase_of phi) (phase_of lambda)
+u-renamed f (theta ∷ phi ∷ lambda ∷ []) (q ∷ []) = u_of-renamed f q (phase_of_angle theta) (phase_of_angle phi) (phase_of_angle lambda)
 u-renamed f (theta ∷ phi ∷ lambda ∷ []) (q ∷ r ∷ qubits) = refl
 u-renamed f (theta ∷ phi ∷ lambda ∷ more ∷ angles) qubits = refl
 

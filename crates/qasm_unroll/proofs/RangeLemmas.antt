@@ -6,13 +6,13 @@ use Rattle.std.proofs.lemmas.Bool.{false_from_ne_true}
 use Rattle.std.proofs.lemmas.Bool.Decides.{nat_tests}
 use Rattle.zx_model.specs.Bits.{member}
 use Rattle.zx_bits.specs.Rows.{IsFirstFrom}
-use Rattle.qasm_scope.specs.Applications.{Range, Single, Register, place_at}
+use Rattle.qasm_scope.specs.Applications.{Range, Single, Register, element_at}
 use Rattle.qasm_scope.specs.Measurements.{are_unlike, bits_of, count_in, holds, holds_any, measures_of, qubits_of}
 use Rattle.qasm_unroll.proofs.MemberLemmas.{Once, any-member, any-none, not_both}
 
 -- all of them
 abbrev pub places : Range → ℕ → List ℕ
-places t n = map (λ index. place_at index t) (range_with_len 0 n)
+places t n = map (λ index. element_at index t) (range_with_len 0 n)
 
 later-apart : (first here from n : ℕ) → here < from → member (first + here) (map (λ index. first + index) (range_with_len from n)) ≡ false
 later-apart first here from zero h = refl
@@ -53,13 +53,13 @@ pub places-apart : (t : Range) (numbers : List ℕ) → holds_any numbers t ≡ 
 places-apart t numbers none number m =
     false_from_ne_true (member number numbers) (λ k. not_both (holds_any numbers t) (any-member (holds t) number numbers k (places-held t number m)) none)
 
-qubits-at : (from to : Range) (indices : List ℕ) → qubits_of (map (λ index. record { qubit = place_at index from; bit = place_at index to }) indices) ≡ map (λ index. place_at index from) indices
+qubits-at : (from to : Range) (indices : List ℕ) → qubits_of (map (λ index. record { qubit = element_at index from; bit = element_at index to }) indices) ≡ map (λ index. element_at index from) indices
 qubits-at from to [] = refl
-qubits-at from to (index ∷ indices) = ap (λ qs. place_at index from ∷ qs) (qubits-at from to indices)
+qubits-at from to (index ∷ indices) = ap (λ qs. element_at index from ∷ qs) (qubits-at from to indices)
 
-bits-at : (from to : Range) (indices : List ℕ) → bits_of (map (λ index. record { qubit = place_at index from; bit = place_at index to }) indices) ≡ map (λ index. place_at index to) indices
+bits-at : (from to : Range) (indices : List ℕ) → bits_of (map (λ index. record { qubit = element_at index from; bit = element_at index to }) indices) ≡ map (λ index. element_at index to) indices
 bits-at from to [] = refl
-bits-at from to (index ∷ indices) = ap (λ qs. place_at index to ∷ qs) (bits-at from to indices)
+bits-at from to (index ∷ indices) = ap (λ qs. element_at index to ∷ qs) (bits-at from to indices)
 
 pub same-count : (from to : Range) → are_unlike from to ≡ false → count_in from ≡ count_in to
 same-count (Single qubit) (Single bit) h = refl

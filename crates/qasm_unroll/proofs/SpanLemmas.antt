@@ -11,7 +11,7 @@ use Rattle.qasm_names.specs.Checks.{Symbols, lookup_by}
 use Rattle.qasm_scope.specs.declared.causes.Cause.{Cause}
 use Rattle.qasm_names.specs.Kept.{IsSound, IsSoundMeaning}
 use Rattle.qasm_scope.specs.Faults.{is_past, wrong_in, has_no_register, has_past_index}
-use Rattle.qasm_scope.specs.Scope.{Scope, Meaning, Qubits, Bits, Gate, bit_count, bit_register, bits_in, meaning_of, numeral, qubit_count, qubit_register, size_of, lookup_in}
+use Rattle.qasm_scope.specs.Scope.{Scope, Meaning, Qubits, Bits, Gate, bit_count, bit_register, bits_in, meaning_of, numeral, qubit_count, qubit_register, qubits_in, lookup_in}
 use Rattle.qasm_unroll.specs.Internal.Spans.{any_missing, span_in, span_of}
 use Rattle.qasm_names.proofs.CheckLemmas.{AreNames, same-lookup}
 use Rattle.qasm_names.proofs.Tests.{any_or}
@@ -27,11 +27,11 @@ lies-more None limit more h k = tt
 lies-more (Some register) limit more h k = omega arith
 
 qubits-at : (b replaceable : Bool) (m : Meaning) (scope : Scope) (rest : Option Meaning) → IsSoundMeaning scope m replaceable → LiesBelow (qubit_count scope) (qubit_register rest)
-    → LiesBelow (size_of m + qubit_count scope) (qubit_register (if b then Some m else rest))
+    → LiesBelow (qubits_in m + qubit_count scope) (qubit_register (if b then Some m else rest))
 qubits-at true replaceable (Qubits first size) scope rest sound h = let place = sound.0.after_others in omega arith
 qubits-at true replaceable (Bits first size) scope rest sound h = tt
 qubits-at true replaceable (Gate form) scope rest sound h = tt
-qubits-at false replaceable m scope rest sound h = lies-more (qubit_register rest) (qubit_count scope) (size_of m + qubit_count scope) (omega arith) h
+qubits-at false replaceable m scope rest sound h = lies-more (qubit_register rest) (qubit_count scope) (qubits_in m + qubit_count scope) (omega arith) h
 
 -- the registers of a sound scope lie below its number of qubits or bits
 pub register-below : (name : List ℕ) (scope : Scope) → IsSound scope → LiesBelow (qubit_count scope) (qubit_register (meaning_of name scope))
@@ -50,7 +50,7 @@ bits-below name [] sound = tt
 bits-below name (d ∷ scope) sound = bits-at (bytes_eq d.name name) d.replaceable d.meaning scope (meaning_of name scope) sound.0 (bits-below name scope sound.2)
 
 few-at : (m : Meaning) (replaceable : Bool) (scope : Scope) → IsSoundMeaning scope m replaceable → (qubit_count scope ≤ most_qubits) × (bit_count scope ≤ most_bits)
-    → (size_of m + qubit_count scope ≤ most_qubits) × (bits_in m + bit_count scope ≤ most_bits)
+    → (qubits_in m + qubit_count scope ≤ most_qubits) × (bits_in m + bit_count scope ≤ most_bits)
 few-at (Qubits first size) replaceable scope sound h = (sound.0.few, omega (arith, h.1))
 few-at (Bits first size) replaceable scope sound h = (omega (arith, h.0), sound.0.few)
 few-at (Gate form) replaceable scope sound h = (omega (arith, h.0), omega (arith, h.1))

@@ -1,12 +1,12 @@
 //! What calls push: values of expressions, and qubits by their places.
 
 ghost use Rattle.std.specs.Prelude.{◌≡◌, ◌≤◌, ◌-◌, ◌^◌, ◌++◌, Ok, Err, Some, None, IfOk, IfErr, OnOk, drop, length, map, min, slice_index_or};
-ghost use Rattle.qasm_angle.specs.Sixteenths.{phase_of};
+ghost use Rattle.qasm_angle.specs.Sixteenths.{phase_of_angle};
 ghost use Rattle.qasm_angle.specs.Values.{value};
 ghost use Rattle.qasm_scope.specs.Angles.{with_cause};
-ghost use Rattle.qasm_scope.specs.Applications.{place_at};
+ghost use Rattle.qasm_scope.specs.Applications.{element_at};
 ghost use Rattle.qasm_unroll.specs.Internal.KeptCalls.{followed, picked, values_of};
-ghost use Rattle.qasm_unroll.specs.Internal.Spans.{span_range, cut_instance, cut_place_at};
+ghost use Rattle.qasm_unroll.specs.Internal.Spans.{span_range, cut_instance, cut_element_at};
 
 use crate::applications::Span;
 use qasm_angle::{Angle, AngleError, Expr, eval, to_sixteenth};
@@ -18,8 +18,8 @@ use zx_model::Sixteenth;
 
 /// The angle in sixteenth turns.
 pub fn sixteenth_of(angle: &Angle) -> Result<Sixteenth, Cause>
-    ensures ok { IfOk result (λ turns. phase_of angle.now ≡ Some turns) }
-    ensures err { IfErr result (λ cause. (phase_of angle.now ≡ None) × (cause
+    ensures ok { IfOk result (λ turns. phase_of_angle angle.now ≡ Some turns) }
+    ensures err { IfErr result (λ cause. (phase_of_angle angle.now ≡ None) × (cause
         ≡ Cause.NotSixteenthTurn)) }
 {
     match to_sixteenth(angle) {
@@ -92,7 +92,7 @@ pub fn qubit_at(qubits: &[Qubit], place: usize) -> Qubit
 
 /// The qubit of an argument in the instance at an index.
 pub fn instance_qubit(span: &Span, index: usize) -> Qubit
-    ensures { result ≡ cut_place_at index (span_range span.now) }
+    ensures { result ≡ cut_element_at index (span_range span.now) }
 {
     match span {
         Span::Single(qubit) => clamped(*qubit),
@@ -102,7 +102,7 @@ pub fn instance_qubit(span: &Span, index: usize) -> Qubit
 
 /// The bit of an argument in the instance at an index.
 pub fn instance_bit(span: &Span, index: usize) -> u32
-    ensures { result ≡ min (place_at index (span_range span.now)) (2 ^ 32 - 1) }
+    ensures { result ≡ min (element_at index (span_range span.now)) (2 ^ 32 - 1) }
 {
     match span {
         Span::Single(bit) => clamped_bit(*bit),

@@ -19,7 +19,7 @@ use Rattle.qasm_lexer.specs.Forms.{is_natural, is_word}
 use Rattle.qasm_lexer.specs.Tokens.{word_kind}
 use Rattle.qasm_reader.specs.Syntax.{Formula, Operand}
 use Rattle.qasm_angle.specs.Ratio.{gcd, lowest, limited}
-use Rattle.qasm_angle.specs.Sixteenths.{phase_of}
+use Rattle.qasm_angle.specs.Sixteenths.{phase_of_angle}
 use Rattle.qasm_angle.specs.Literals as literals
 use Rattle.qasm_angle.specs.Values as values
 use Rattle.qasm_scope.specs.Calls.{Event, Called, Undefined, Applied, call_count, deepest, first_wrong}
@@ -133,7 +133,7 @@ module _ (place n m q : ℕ) (few : n ≤ most_qubits) (below : q < n) where
       (u1_comes n (decimal q) q is in_range (pi_times_over times (d ∷ [])) k refl angle.0 angle.1)
 
   phases : AllFrom (λ k. IsGateLine place (written_scope n m) (Phase q k)) 1 (turn - 1)
-  unfolding digits with_header angle_of values.applied gcd lowest limited phase_of literals.literal_value literals.decimal
+  unfolding digits with_header angle_of values.applied gcd lowest limited phase_of_angle literals.literal_value literals.decimal
   phases = (
     over_is 56 1 (refl, refl, refl) refl (refl, refl),
     (

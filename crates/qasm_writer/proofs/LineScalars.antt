@@ -9,7 +9,7 @@ use Rattle.zx_model.proofs.Ring.{mul-one}
 use Rattle.zx_model.specs.Phase.{half_turn, quarter_turn, eighth_turn}
 use Rattle.zx_model.specs.Scalar.{numerator, denominator, IsScaled, IsWithin, most_root2, one_scalar, product_of_scalars}
 use Rattle.zx_model.specs.declared.scalar.Scalar.{Scalar}
-use Rattle.zx_gates.specs.Circuit.{IsGateOn, gate_bound}
+use Rattle.zx_gates.specs.Circuit.{IsGateOn, gate_limit}
 use Rattle.zx_gates.specs.ElementaryMaps.{act_elementary, amp_elementary}
 use Rattle.zx_gates.specs.Internal.Lowering.{acts_elementary}
 use Rattle.zx_gates.specs.Internal.Scalars.{scalar}
@@ -105,6 +105,6 @@ scaled_all n gates i s whole d =
     (subst (λ xs. Scaled n (acts_elementary (elements_of xs)) s (acts xs)) (ap (λ k. take k gates) whole ∙ take-length gates) d.scaled)
 
 -- the exponent fits
-pub scaled_within : (n : ℕ) (gates : List Gate) (i : ℕ) (gate : Gate) (s : Scalar) → i < length gates → length gates < gate_bound → IsScaledTo n gates i s
+pub scaled_within : (n : ℕ) (gates : List Gate) (i : ℕ) (gate : Gate) (s : Scalar) → i < length gates → length gates < gate_limit → IsScaledTo n gates i s
     → IsWithin most_root2 (product_of_scalars s (line_scalar gate))
 scaled_within n gates i gate s inside few d = omega (arith, within_product (4 * i) 4 s (line_scalar gate) d.within (within_line gate), inside, few)

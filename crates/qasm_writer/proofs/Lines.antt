@@ -16,7 +16,7 @@ use Rattle.qasm_lexer.proofs.Scan.{IsCut-tokens_of}
 use Rattle.qasm_reader.specs.Depth.{too_deep, too_deep_from}
 use Rattle.qasm_reader.specs.Grammar.{IsProgram, IsStatement, IsArgument, IsArguments, IsAngles, IsExpression, BeginsAt, OneTerm, Product, Quotient, OnePower, OneFactor, WholeNumber, PiWord, Sign, Word, IsIdentifier, IsIndex, ◌⋅◌}
 use Rattle.qasm_reader.specs.Syntax.{Formula, Operand, Sentence, Version, Include, QubitRegister, BitRegister, Placed}
-use Rattle.qasm_writer.specs.Written.{bit, measure_line, on_one, on_two, qubit}
+use Rattle.qasm_writer.specs.Written.{bit_name, measure_line, on_one, on_two, qubit_name}
 use Rattle.qasm_writer.proofs.Statements.{application, measurement, operand, pi_over, pi_times_over}
 
 -- ---- texts and programs
@@ -150,7 +150,7 @@ grouped a b c d = simp append_assoc
 
 on_one-text : (name : List ℕ) (q : ℕ) → on_one name q ≡ one_text name q
 on_one-text name q =
-    grouped name (codes " ") (qubit q) (codes ";\n")
+    grouped name (codes " ") (qubit_name q) (codes ";\n")
     ∙ ap (λ t. name ++ 32 ∷ 113 ∷ 91 ∷ t) (append_assoc (decimal q) (codes "]") (59 ∷ 10 ∷ []))
 
 abbrev two_text : List ℕ → ℕ → ℕ → List ℕ
@@ -158,9 +158,9 @@ two_text name q r = name ++ 32 ∷ qubit_then q (44 ∷ qubit_then r (59 ∷ 10 
 
 on_two-text : (name : List ℕ) (q r : ℕ) → on_two name q r ≡ two_text name q r
 on_two-text name q r =
-    grouped (name ++ codes " " ++ qubit q) (codes ",") (qubit r) (codes ";\n")
-    ∙ grouped name (codes " ") (qubit q) (codes "," ++ (qubit r ++ codes ";\n"))
-    ∙ ap (λ t. name ++ 32 ∷ 113 ∷ 91 ∷ t) (append_assoc (decimal q) (codes "]") (44 ∷ (qubit r ++ 59 ∷ 10 ∷ [])))
+    grouped (name ++ codes " " ++ qubit_name q) (codes ",") (qubit_name r) (codes ";\n")
+    ∙ grouped name (codes " ") (qubit_name q) (codes "," ++ (qubit_name r ++ codes ";\n"))
+    ∙ ap (λ t. name ++ 32 ∷ 113 ∷ 91 ∷ t) (append_assoc (decimal q) (codes "]") (44 ∷ (qubit_name r ++ 59 ∷ 10 ∷ [])))
     ∙ ap (λ t. name ++ 32 ∷ qubit_then q (44 ∷ 113 ∷ 91 ∷ t)) (append_assoc (decimal r) (codes "]") (59 ∷ 10 ∷ []))
 
 -- a line without its end
@@ -175,8 +175,8 @@ module _ (place : ℕ) (name : List ℕ) (is : is_word name ≡ true) (identifie
       let c : IsCut place (one_text name q) (t ∷ one_tokens (place + length name) q) =
       IsCut-word name (place + length name) is identifier refl refl (one_cut (place + length name) q small) in
       record {
-        prefix = name ++ codes " " ++ qubit q ++ codes ";";
-        ends = line_ends (name ++ codes " " ++ qubit q);
+        prefix = name ++ codes " " ++ qubit_name q ++ codes ";";
+        ends = line_ends (name ++ codes " " ++ qubit_name q);
         tokens = t ∷ one_tokens (place + length name) q;
         cut = subst (λ text. IsCut place text (t ∷ one_tokens (place + length name) q)) (sym (on_one-text name q)) c;
         begins = (t, one_tokens (place + length name) q, refl, refl);
@@ -193,8 +193,8 @@ module _ (place : ℕ) (name : List ℕ) (is : is_word name ≡ true) (identifie
       let c : IsCut place (two_text name q r) (t ∷ more) =
       IsCut-word name (place + length name) is identifier refl refl (two_cut (place + length name) q r small slight) in
       record {
-        prefix = name ++ codes " " ++ qubit q ++ codes "," ++ qubit r ++ codes ";";
-        ends = line_ends (name ++ codes " " ++ qubit q ++ codes "," ++ qubit r);
+        prefix = name ++ codes " " ++ qubit_name q ++ codes "," ++ qubit_name r ++ codes ";";
+        ends = line_ends (name ++ codes " " ++ qubit_name q ++ codes "," ++ qubit_name r);
         tokens = t ∷ more;
         cut = subst (λ text. IsCut place text (t ∷ more)) (sym (on_two-text name q r)) c;
         begins = (t, more, refl, refl);
@@ -250,8 +250,8 @@ module _ (place next : ℕ) (angle : List ℕ) (f : Formula) (inside : List Lexe
       let left : Lexeme = token kind.LeftParenthesis (codes "(") (place + 2) in
       let more : List Lexeme = left ∷ (inside ++ one_tokens next q) in
       record {
-        prefix = u1_text angle ++ codes " " ++ qubit q ++ codes ";";
-        ends = line_ends (u1_text angle ++ codes " " ++ qubit q);
+        prefix = u1_text angle ++ codes " " ++ qubit_name q ++ codes ";";
+        ends = line_ends (u1_text angle ++ codes " " ++ qubit_name q);
         tokens = t ∷ more;
         cut = subst (λ text. IsCut place text (t ∷ more)) (sym (on_one-text (u1_text angle) q))
             (IsCut-word (codes "u1") (place + 2) refl refl refl refl
@@ -415,8 +415,8 @@ all_grouped a b c d e = simp append_assoc
 
 measure-text : (q b : ℕ) → measure_line (record { qubit = q; bit = b }) ≡ measure_text q b
 measure-text q b =
-    all_grouped (codes "measure ") (qubit q) (codes " -> ") (bit b) (codes ";\n")
-    ∙ ap (λ t. codes "measure " ++ 113 ∷ 91 ∷ t) (append_assoc (decimal q) (codes "]") (32 ∷ 45 ∷ 62 ∷ 32 ∷ (bit b ++ 59 ∷ 10 ∷ [])))
+    all_grouped (codes "measure ") (qubit_name q) (codes " -> ") (bit_name b) (codes ";\n")
+    ∙ ap (λ t. codes "measure " ++ 113 ∷ 91 ∷ t) (append_assoc (decimal q) (codes "]") (32 ∷ 45 ∷ 62 ∷ 32 ∷ (bit_name b ++ 59 ∷ 10 ∷ [])))
     ∙ ap (λ t. codes "measure " ++ qubit_then q (32 ∷ 45 ∷ 62 ∷ 32 ∷ 99 ∷ 91 ∷ t)) (append_assoc (decimal b) (codes "]") (59 ∷ 10 ∷ []))
 
 pub measure_is : (place q b : ℕ) → q < 2 ^ 64 → b < 2 ^ 64 → IsLine place (measure_line (record { qubit = q; bit = b })) (measurement q b)
@@ -436,8 +436,8 @@ measure_is place q b small slight =
     (element_cut 99 refl refl (place + 15 + length (decimal q)) b (place + 18 + length (decimal q) + length (decimal b)) (59 ∷ 10 ∷ []) _ slight (omega arith)
     (end_cut (place + 18 + length (decimal q) + length (decimal b))))))))) in
     record {
-      prefix = codes "measure " ++ qubit q ++ codes " -> " ++ bit b ++ codes ";";
-      ends = line_ends (codes "measure " ++ qubit q ++ codes " -> " ++ bit b);
+      prefix = codes "measure " ++ qubit_name q ++ codes " -> " ++ bit_name b ++ codes ";";
+      ends = line_ends (codes "measure " ++ qubit_name q ++ codes " -> " ++ bit_name b);
       tokens = word ∷ more;
       cut = subst (λ text. IsCut place text (word ∷ more)) (sym (measure-text q b)) c;
       begins = (word, more, refl, refl);

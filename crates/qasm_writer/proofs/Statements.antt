@@ -10,7 +10,7 @@ use Rattle.qasm_reader.specs.declared.expression.Operator.TheVariants.{Multiply,
 use Rattle.qasm_reader.specs.Syntax.{Formula, Number, Pi, Binary, Operand, Declared, Sentence, Act}
 use Rattle.qasm_reader.specs.Syntax as syntax
 use Rattle.qasm_angle.specs.Ratio.{gcd, lowest, limited}
-use Rattle.qasm_angle.specs.Sixteenths.{phase_of}
+use Rattle.qasm_angle.specs.Sixteenths.{phase_of_angle}
 use Rattle.qasm_angle.specs.Literals as literals
 use Rattle.qasm_angle.specs.Values as values
 use Rattle.std.specs.List.{flat_map, list_any}
@@ -220,43 +220,43 @@ module _ (n m : ℕ) (name : List ℕ) (angles : List Formula) (other : bytes_eq
 -- ---- each gate, at an index i that is the number q
 module _ (n : ℕ) (i : List ℕ) (q : ℕ) (is : 0 + numeral i ≡ q) (below : nat_le n (numeral i) ≡ false) where
   pub h_comes : Comes (register_scope n) (application (codes "h") [] (operand i ∷ [])) (elementary.U q quarter_turn 0 half_turn ∷ [])
-  unfolding with_header angle_of values.applied gcd lowest limited phase_of literals.literal_value literals.decimal
+  unfolding with_header angle_of values.applied gcd lowest limited phase_of_angle literals.literal_value literals.decimal
   h_comes = on_one_comes n i (codes "h") [] (λ k. elementary.U k quarter_turn 0 half_turn ∷ [])
       (Called 1 ∷ Called 2 ∷ Called 3 ∷ Applied (elementary.U (0 + numeral i) quarter_turn 0 half_turn) ∷ [])
       q is below refl refl refl refl refl (omega arith) refl
 
   pub x_comes : Comes (register_scope n) (application (codes "x") [] (operand i ∷ [])) (elementary.U q half_turn 0 half_turn ∷ [])
-  unfolding with_header angle_of values.applied gcd lowest limited phase_of literals.literal_value literals.decimal
+  unfolding with_header angle_of values.applied gcd lowest limited phase_of_angle literals.literal_value literals.decimal
   x_comes = on_one_comes n i (codes "x") [] (λ k. elementary.U k half_turn 0 half_turn ∷ [])
       (Called 1 ∷ Called 2 ∷ Called 3 ∷ Applied (elementary.U (0 + numeral i) half_turn 0 half_turn) ∷ [])
       q is below refl refl refl refl refl (omega arith) refl
 
   pub t_comes : Comes (register_scope n) (application (codes "t") [] (operand i ∷ [])) (elementary.U q 0 0 eighth_turn ∷ [])
-  unfolding with_header angle_of values.applied gcd lowest limited phase_of literals.literal_value literals.decimal
+  unfolding with_header angle_of values.applied gcd lowest limited phase_of_angle literals.literal_value literals.decimal
   t_comes = on_one_comes n i (codes "t") [] (λ k. elementary.U k 0 0 eighth_turn ∷ [])
       (Called 1 ∷ Called 2 ∷ Called 3 ∷ Applied (elementary.U (0 + numeral i) 0 0 eighth_turn) ∷ [])
       q is below refl refl refl refl refl (omega arith) refl
 
   pub s_comes : Comes (register_scope n) (application (codes "s") [] (operand i ∷ [])) (elementary.U q 0 0 quarter_turn ∷ [])
-  unfolding with_header angle_of values.applied gcd lowest limited phase_of literals.literal_value literals.decimal
+  unfolding with_header angle_of values.applied gcd lowest limited phase_of_angle literals.literal_value literals.decimal
   s_comes = on_one_comes n i (codes "s") [] (λ k. elementary.U k 0 0 quarter_turn ∷ [])
       (Called 1 ∷ Called 2 ∷ Called 3 ∷ Applied (elementary.U (0 + numeral i) 0 0 quarter_turn) ∷ [])
       q is below refl refl refl refl refl (omega arith) refl
 
   pub z_comes : Comes (register_scope n) (application (codes "z") [] (operand i ∷ [])) (elementary.U q 0 0 half_turn ∷ [])
-  unfolding with_header angle_of values.applied gcd lowest limited phase_of literals.literal_value literals.decimal
+  unfolding with_header angle_of values.applied gcd lowest limited phase_of_angle literals.literal_value literals.decimal
   z_comes = on_one_comes n i (codes "z") [] (λ k. elementary.U k 0 0 half_turn ∷ [])
       (Called 1 ∷ Called 2 ∷ Called 3 ∷ Applied (elementary.U (0 + numeral i) 0 0 half_turn) ∷ [])
       q is below refl refl refl refl refl (omega arith) refl
 
   pub sdg_comes : Comes (register_scope n) (application (codes "sdg") [] (operand i ∷ [])) (elementary.U q 0 0 (half_turn + quarter_turn) ∷ [])
-  unfolding with_header angle_of values.applied gcd lowest limited phase_of literals.literal_value literals.decimal
+  unfolding with_header angle_of values.applied gcd lowest limited phase_of_angle literals.literal_value literals.decimal
   sdg_comes = on_one_comes n i (codes "sdg") [] (λ k. elementary.U k 0 0 (half_turn + quarter_turn) ∷ [])
       (Called 1 ∷ Called 2 ∷ Called 3 ∷ Applied (elementary.U (0 + numeral i) 0 0 (half_turn + quarter_turn)) ∷ [])
       q is below refl refl refl refl refl (omega arith) refl
 
   pub tdg_comes : Comes (register_scope n) (application (codes "tdg") [] (operand i ∷ [])) (elementary.U q 0 0 (opposite_phase eighth_turn) ∷ [])
-  unfolding with_header angle_of values.applied gcd lowest limited phase_of literals.literal_value literals.decimal
+  unfolding with_header angle_of values.applied gcd lowest limited phase_of_angle literals.literal_value literals.decimal
   tdg_comes = on_one_comes n i (codes "tdg") [] (λ k. elementary.U k 0 0 (opposite_phase eighth_turn) ∷ [])
       (Called 1 ∷ Called 2 ∷ Called 3 ∷ Applied (elementary.U (0 + numeral i) 0 0 (opposite_phase eighth_turn)) ∷ [])
       q is below refl refl refl refl refl (omega arith) refl
@@ -282,7 +282,7 @@ module _ (n : ℕ) (i j : List ℕ) (q r : ℕ) (is : 0 + numeral i ≡ q) (are 
 
   pub cz_comes : Comes (register_scope n) (application (codes "cz") [] (operand i ∷ operand j ∷ []))
       (elementary.U r quarter_turn 0 half_turn ∷ elementary.Cx q r ∷ elementary.U r quarter_turn 0 half_turn ∷ [])
-  unfolding with_header angle_of values.applied gcd lowest limited phase_of literals.literal_value literals.decimal
+  unfolding with_header angle_of values.applied gcd lowest limited phase_of_angle literals.literal_value literals.decimal
   cz_comes = on_two_comes n i j (codes "cz") (λ k l. elementary.U l quarter_turn 0 half_turn ∷ elementary.Cx k l ∷ elementary.U l quarter_turn 0 half_turn ∷ [])
       (Called 1 ∷ Called 2 ∷ Called 3 ∷ Called 4 ∷ Applied (elementary.U (0 + numeral j) quarter_turn 0 half_turn)
       ∷ Called 2 ∷ Called 3 ∷ Applied (elementary.Cx (0 + numeral i) (0 + numeral j))

@@ -32,15 +32,15 @@ phase_name k =
     if k == half_turn + quarter_turn then codes "sdg" else
     if k == opposite_phase eighth_turn then codes "tdg" else u1_name k
 
-abbrev pub qubit : ℕ → List ℕ
-qubit q = codes "q[" ++ decimal q ++ codes "]"
+abbrev pub qubit_name : ℕ → List ℕ
+qubit_name q = codes "q[" ++ decimal q ++ codes "]"
 
 -- a gate by its name on one qubit, or on two
 abbrev pub on_one : List ℕ → ℕ → List ℕ
-on_one name q = name ++ codes " " ++ qubit q ++ codes ";\n"
+on_one name q = name ++ codes " " ++ qubit_name q ++ codes ";\n"
 
 abbrev pub on_two : List ℕ → ℕ → ℕ → List ℕ
-on_two name q r = name ++ codes " " ++ qubit q ++ codes "," ++ qubit r ++ codes ";\n"
+on_two name q r = name ++ codes " " ++ qubit_name q ++ codes "," ++ qubit_name r ++ codes ";\n"
 
 abbrev pub gate_line : Gate → List ℕ
 gate_line (H q) = on_one (codes "h") q
@@ -49,11 +49,11 @@ gate_line (Cz q r) = on_two (codes "cz") q r
 gate_line (Cx control target) = on_two (codes "cx") control target
 gate_line (Not q) = on_one (codes "x") q
 
-abbrev pub bit : ℕ → List ℕ
-bit b = codes "c[" ++ decimal b ++ codes "]"
+abbrev pub bit_name : ℕ → List ℕ
+bit_name b = codes "c[" ++ decimal b ++ codes "]"
 
 abbrev pub measure_line : Measure → List ℕ
-measure_line m = codes "measure " ++ qubit m.qubit ++ codes " -> " ++ bit m.bit ++ codes ";\n"
+measure_line m = codes "measure " ++ qubit_name m.qubit ++ codes " -> " ++ bit_name m.bit ++ codes ";\n"
 
 -- the whole text of a circuit with measurements behind it, into so many bits
 unfoldable pub written : Circuit → ℕ → List Measure → List ℕ

@@ -5,7 +5,7 @@ ghost use Rattle.std.specs.List.{flat_map};
 ghost use Rattle.qasm_writer.specs.Elements.{elements_of};
 ghost use Rattle.qasm_scope.specs.Texts.{TextMeans};
 ghost use Rattle.qasm_writer.specs.Measuring.{AreBehind};
-ghost use Rattle.qasm_writer.specs.Written.{written, bit, bits_line, gate_line, measure_line, on_one, on_two, qubit, phase_name, u1_name, register_line};
+ghost use Rattle.qasm_writer.specs.Written.{written, bit_name, bits_line, gate_line, measure_line, on_one, on_two, qubit_name, phase_name, u1_name, register_line};
 ghost use Rattle.qasm_writer.specs.Internal.Names.{AreNames};
 
 use itoa::Buffer;
@@ -154,7 +154,7 @@ fn push_on_one(
 fn push_operand(text: &mut Vec<u8>, names: &[Vec<u8>], q: Qubit) -> Result<(), AllocError>
     requires { AreNames names.now }
     ensures { OnOk result
-        (text.new.items ≡ text.old.items ++ codes " " ++ qubit q ++ codes ";\n") }
+        (text.new.items ≡ text.old.items ++ codes " " ++ qubit_name q ++ codes ";\n") }
 {
     text.extend_from_slice(b" ")?;
     push_name(text, names, q)?;
@@ -183,7 +183,7 @@ fn push_on_two(
 // Adds a qubit, as it was written before.
 fn push_name(text: &mut Vec<u8>, names: &[Vec<u8>], q: Qubit) -> Result<(), AllocError>
     requires { AreNames names.now }
-    ensures { OnOk result (text.new.items ≡ text.old.items ++ qubit q) }
+    ensures { OnOk result (text.new.items ≡ text.old.items ++ qubit_name q) }
 {
     match names.get(usize::from(q)) {
         Some(name) => text.extend_from_slice(name),
@@ -193,7 +193,7 @@ fn push_name(text: &mut Vec<u8>, names: &[Vec<u8>], q: Qubit) -> Result<(), Allo
 
 // Adds a qubit of the register.
 fn push_qubit(text: &mut Vec<u8>, q: Qubit) -> Result<(), AllocError>
-    ensures { OnOk result (text.new.items ≡ text.old.items ++ qubit q) }
+    ensures { OnOk result (text.new.items ≡ text.old.items ++ qubit_name q) }
 {
     text.extend_from_slice(b"q[")?;
     push_number(text, u32::from(q))?;

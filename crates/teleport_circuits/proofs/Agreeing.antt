@@ -4,7 +4,7 @@ use Rattle.std.specs.Prelude.{Option, Some, None}
 use Rattle.std.specs.List.{fold, range_with_len}
 use Rattle.zx_model.specs.Phase.{turn, sum_of_phases, opposite_phase}
 use Rattle.zx_model.specs.Bits.{member}
-use Rattle.zx_calculus.specs.Graph.{Graph, ids, Live}
+use Rattle.zx_calculus.specs.Graph.{Graph, ids, IsVertex}
 use Rattle.zx_calculus.specs.Splits.{spider_of_phase_zero}
 use Rattle.zx_calculus.specs.Gadgets.{fuse_kind}
 use Rattle.zx_calculus.proofs.Booleans.{or-true}
@@ -13,7 +13,7 @@ use Rattle.zx_calculus.proofs.Vertices.{ids-with_kinds, member-insert}
 use Rattle.zx_gates.specs.Circuit.{is_odd_phase}
 use Rattle.zx_gates.specs.declared.gate.Gate.{Gate}
 use Rattle.zx_gates.specs.declared.gate.Gate.TheVariants.{H, Phase, Cz, Cx, Not}
-use Rattle.circuit_graph.specs.Translation.{by_hadamards, written_out, with_gate, phase_vertex, places_from, present}
+use Rattle.circuit_graph.specs.Translation.{by_hadamards, written_out, with_gate, phase_vertex, places_from, last_spider}
 use Rattle.circuit_graph.specs.Internal.Runs.{GraphSoFar, IsReady, IsGateStep, IsRun}
 use Rattle.circuit_graph.proofs.RunLemmas.{run_comes}
 use Rattle.circuit_graph.proofs.Calls.{here_live}
@@ -90,7 +90,7 @@ module _ (old phase vertex_of : ℕ → ℕ) (pick : ℕ → Bool) (low_old : (i
       ∙ ap (λ k. sum_of_phases (more v) (sum_over (filter pick (i ∷ range_with_len k (length gates))) v)) (sym (add-one i))
 
 -- ---- vertices that are there stay
-live_step : (s : GraphSoFar) (gate : Gate) (t : GraphSoFar) (u : ℕ) → IsGateStep s gate t → Live s.graph u → Live t.graph u
+live_step : (s : GraphSoFar) (gate : Gate) (t : GraphSoFar) (u : ℕ) → IsGateStep s gate t → IsVertex s.graph u → IsVertex t.graph u
 live_step s (H q) t u c there =
     ap (λ vs. member u (ids vs)) c.peel.vertices ∙ member-insert u (spider_of_phase_zero c.peel.spider) s.graph.vertices ∙ ap (λ b. eqb u c.peel.spider || b) there ∙ or-true (eqb u c.peel.spider)
 live_step s (Phase q k) t u c there = ap (λ vs. member u (ids vs)) c.peel.vertices ∙ ap (member u) (ids-with_kinds (fuse_kind c.peel.vertex k) s.graph.vertices) ∙ there
@@ -98,22 +98,22 @@ live_step s (Cz p q) t u c there = ap (λ vs. member u (ids vs)) c.peel.vertices
 live_step s (Cx a b) t u c there = absurd c
 live_step s (Not q) t u c there = absurd c
 
-live_run : (s : GraphSoFar) (gates : List Gate) (t : GraphSoFar) (u : ℕ) → IsRun s gates t → Live s.graph u → Live t.graph u
-live_run s [] t u run there = subst (λ (k : GraphSoFar). Live k.graph u) run there
+live_run : (s : GraphSoFar) (gates : List Gate) (t : GraphSoFar) (u : ℕ) → IsRun s gates t → IsVertex s.graph u → IsVertex t.graph u
+live_run s [] t u run there = subst (λ (k : GraphSoFar). IsVertex k.graph u) run there
 live_run s (gate ∷ gates) t u run there = live_run run.0 gates t u run.2 (live_step s gate run.0 u run.1 there)
 
 some_is : (a b : ℕ) → Some a ≡ Some b → a ≡ b
 some_is a b e = cc
 
-place_live : (s : GraphSoFar) (gate : Gate) (t : GraphSoFar) (u : ℕ) → IsReady s → IsRun s (by_hadamards gate) t → phase_vertex s.graph gate ≡ Some u → Live s.graph u
+place_live : (s : GraphSoFar) (gate : Gate) (t : GraphSoFar) (u : ℕ) → IsReady s → IsRun s (by_hadamards gate) t → phase_vertex s.graph gate ≡ Some u → IsVertex s.graph u
 place_live s (Phase q k) t u r run e =
-    subst (Live s.graph) (phase_here s q k run.0 run.1 ∙ some_is (present s.graph q) u e) (here_live s.graph q run.1.peel.vertex r.well_formed (output_before s q k run.0 run.1))
+    subst (IsVertex s.graph) (phase_here s q k run.0 run.1 ∙ some_is (last_spider s.graph q) u e) (here_live s.graph q run.1.peel.vertex r.well_formed (output_before s q k run.0 run.1))
 place_live s (H q) t u r run e = absurd cc
 place_live s (Cz p q) t u r run e = absurd cc
 place_live s (Cx a b) t u r run e = absurd cc
 place_live s (Not q) t u r run e = absurd cc
 
-pub places_live : (gates : List Gate) (s t : GraphSoFar) (j u : ℕ) → IsReady s → IsRun s (written_out gates) t → get_or (places_from s.graph gates) j None ≡ Some u → Live t.graph u
+pub places_live : (gates : List Gate) (s t : GraphSoFar) (j u : ℕ) → IsReady s → IsRun s (written_out gates) t → get_or (places_from s.graph gates) j None ≡ Some u → IsVertex t.graph u
 places_live [] s t j u r run e = absurd cc
 places_live (gate ∷ gates) s t zero u r run e =
     let parts = cut s (by_hadamards gate) (written_out gates) t run in

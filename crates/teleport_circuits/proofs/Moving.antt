@@ -6,11 +6,10 @@ use Rattle.std.proofs.lemmas.List.Elements.{All-head, All-tail, All-cons, All-ni
 use Rattle.std.proofs.lemmas.List.FromFn.{length-map-range_with_len}
 use Rattle.zx_model.specs.Phase.{turn, half_turn, sum_of_phases, opposite_phase}
 use Rattle.zx_model.specs.Bits.{member}
-use Rattle.zx_calculus.specs.Graph.{Kind, Graph, ids, with_kinds, insert_vertex, OrderedEdges}
+use Rattle.zx_calculus.specs.Graph.{Kind, Graph, ids, with_kinds, insert_vertex, OrderedEdges, plain}
 use Rattle.zx_calculus.specs.Splits.{spider_of_phase_zero}
 use Rattle.zx_calculus.specs.Gadgets.{fuse_kind}
 use Rattle.zx_calculus.specs.Turns.{in_plane}
-use Rattle.zx_calculus.specs.Worked.{plain}
 use Rattle.zx_calculus.specs.Graph.{XY}
 use Rattle.zx_calculus.proofs.Ids.{by_equal, or-right}
 use Rattle.zx_calculus.proofs.Vertices.{ids-with_kinds, length-with_kinds, with_kinds_same, member-insert}
@@ -19,11 +18,11 @@ use Rattle.zx_gates.specs.Circuit.{Circuit, IsCircuit, IsOnQubits, IsBelowATurn}
 use Rattle.zx_gates.specs.declared.gate.Gate.{Gate}
 use Rattle.zx_gates.specs.declared.gate.Gate.TheVariants.{H, Phase, Cz, Cx, Not}
 use Rattle.circuit_laws.specs.Peeling.{HasPlainOutput}
-use Rattle.circuit_graph.specs.Translation.{by_hadamards, written_out, phase_vertex, present, wires}
+use Rattle.circuit_graph.specs.Translation.{by_hadamards, written_out, phase_vertex, last_spider, wires}
 use Rattle.circuit_graph.specs.Internal.Runs.{GraphSoFar, begun, IsReady, IsGateStep, IsRun, IsSpiderStep, IsPhaseStep, IsToggleStep, Comes, Translates}
 use Rattle.circuit_graph.proofs.RunLemmas.{run_comes, run-append}
 use Rattle.circuit_graph.proofs.Gates.{gate_comes}
-use Rattle.circuit_graph.proofs.Graphs.{present_is}
+use Rattle.circuit_graph.proofs.Graphs.{last_spider_is}
 use Rattle.circuit_graph.proofs.Calls.{here_live}
 use Rattle.circuit_graph.proofs.Whole.{run_translates}
 use Rattle.teleport_laws.specs.Shifts.{add_kind, shifted, IsShift}
@@ -90,15 +89,15 @@ other_phase a k m l low = omega arith
 pub output_before : (s : GraphSoFar) (q k : ℕ) (t : GraphSoFar) (c : IsPhaseStep s q k t) → HasPlainOutput s.graph q c.peel.vertex
 output_before s q k t c = ap (λ es. slice_get es q) (sym c.peel.outputs) ∙ c.peel.output
 
-pub phase_here : (s : GraphSoFar) (q k : ℕ) (t : GraphSoFar) (c : IsPhaseStep s q k t) → c.peel.vertex ≡ present s.graph q
-phase_here s q k t c = sym (present_is s.graph.outputs q c.peel.vertex (output_before s q k t c))
+pub phase_here : (s : GraphSoFar) (q k : ℕ) (t : GraphSoFar) (c : IsPhaseStep s q k t) → c.peel.vertex ≡ last_spider s.graph q
+phase_here s q k t c = sym (last_spider_is s.graph.outputs q c.peel.vertex (output_before s q k t c))
 
 module _ (s : GraphSoFar) (q k l : ℕ) (t : GraphSoFar) (more : ℕ → ℕ) (r : IsReady s) (low : k < turn) (shift : IsShift s.graph more) (c : IsPhaseStep s q k t) where
   abbrev difference : ℕ
   difference = sum_of_phases l (opposite_phase k)
 
   abbrev after : ℕ → ℕ
-  after = added_at (Some (present s.graph q)) difference more
+  after = added_at (Some (last_spider s.graph q)) difference more
 
   kinds : (u p : ℕ) (kind : Kind) → add_kind (added_at (Some u) difference more) p (fuse_kind u k p kind) ≡ fuse_kind u l p (add_kind more p kind)
   kinds u p kind =
@@ -131,11 +130,11 @@ module _ (s : GraphSoFar) (q k l : ℕ) (t : GraphSoFar) (more : ℕ → ℕ) (r
 
   pub phase_shift : IsShift t.graph after
   phase_shift = record {
-    below = λ v. cond_low (eqb v (present s.graph q)) _ _ (low_sum (more v) difference) (shift.below v);
+    below = λ v. cond_low (eqb v (last_spider s.graph q)) _ _ (low_sum (more v) difference) (shift.below v);
     absent = λ v absent.
         let before : member v (ids s.graph.vertices) ≡ false = sym (ap (member v) (ap ids c.peel.vertices ∙ ids-with_kinds (fuse_kind c.peel.vertex k) s.graph.vertices)) ∙ absent in
-        let apart : v ≢ present s.graph q = λ e. true≢false (sym (here_live s.graph q c.peel.vertex r.well_formed (output_before s q k t c)) ∙ ap (λ u. member u (ids s.graph.vertices)) (phase_here s q k t c ∙ sym e) ∙ before) in
-        ap (λ b. cond b (sum_of_phases (more v) difference) (more v)) (ne_eqb v (present s.graph q) apart) ∙ shift.absent v before;
+        let apart : v ≢ last_spider s.graph q = λ e. true≢false (sym (here_live s.graph q c.peel.vertex r.well_formed (output_before s q k t c)) ∙ ap (λ u. member u (ids s.graph.vertices)) (phase_here s q k t c ∙ sym e) ∙ before) in
+        ap (λ b. cond b (sum_of_phases (more v) difference) (more v)) (ne_eqb v (last_spider s.graph q) apart) ∙ shift.absent v before;
   }
 
 -- ---- gates in a row
@@ -152,13 +151,13 @@ step_shifts s (Cz p q) t more r shift low c = record {
   shift = same_ids_shift s.graph t.graph more shift (ap ids c.peel.vertices);
 }
 step_shifts s (Phase q k) t more r shift low c = subst (λ m. Shifts s (Phase q k ∷ []) more m t) (λ i v. same v i)
-    (record { run = (shifted_state (added_at (Some (present s.graph q)) (sum_of_phases k (opposite_phase k)) more) t, phase_shifts s q k k t more r low shift c, refl); shift = phase_shift s q k k t more r low shift c })
+    (record { run = (shifted_state (added_at (Some (last_spider s.graph q)) (sum_of_phases k (opposite_phase k)) more) t, phase_shifts s q k k t more r low shift c, refl); shift = phase_shift s q k k t more r low shift c })
   where
     none : (m k : ℕ) → k < turn → m < turn → sum_of_phases m (sum_of_phases k (opposite_phase k)) ≡ m
     none m k lt lt' = omega arith
 
-    same : (v : ℕ) → added_at (Some (present s.graph q)) (sum_of_phases k (opposite_phase k)) more v ≡ more v
-    same v = by_equal v (present s.graph q) (λ t e. rw t (none (more v) k low (shift.below v))) (λ t n. rw t refl)
+    same : (v : ℕ) → added_at (Some (last_spider s.graph q)) (sum_of_phases k (opposite_phase k)) more v ≡ more v
+    same v = by_equal v (last_spider s.graph q) (λ t e. rw t (none (more v) k low (shift.below v))) (λ t n. rw t refl)
 step_shifts s (Cx control target) t more r shift low c = absurd c
 step_shifts s (Not q) t more r shift low c = absurd c
 
@@ -187,8 +186,8 @@ gate_shifts s (Not q) l t more r shift low run =
     follows s (by_hadamards (Not q)) t more r shift
     (All-cons IsBelowATurn (H q) (Phase q half_turn ∷ H q ∷ []) tt (All-cons IsBelowATurn (Phase q half_turn) (H q ∷ []) (omega arith) (All-cons IsBelowATurn (H q) [] tt (All-nil IsBelowATurn)))) run
 gate_shifts s (Phase q k) l t more r shift low run =
-    subst (λ u. Shifts s (Phase q l ∷ []) more (added_at (Some (present s.graph q)) (sum_of_phases l (opposite_phase k)) more) u) run.2
-    (record { run = (shifted_state (added_at (Some (present s.graph q)) (sum_of_phases l (opposite_phase k)) more) run.0, phase_shifts s q k l run.0 more r low shift run.1, refl); shift = phase_shift s q k l run.0 more r low shift run.1 })
+    subst (λ u. Shifts s (Phase q l ∷ []) more (added_at (Some (last_spider s.graph q)) (sum_of_phases l (opposite_phase k)) more) u) run.2
+    (record { run = (shifted_state (added_at (Some (last_spider s.graph q)) (sum_of_phases l (opposite_phase k)) more) run.0, phase_shifts s q k l run.0 more r low shift run.1, refl); shift = phase_shift s q k l run.0 more r low shift run.1 })
 
 -- a run cut in two
 pub record IsCut (s : GraphSoFar) (first second : List Gate) (t : GraphSoFar) : Type 0 where

@@ -8,7 +8,7 @@ use Rattle.zx_model.specs.declared.scalar.Scalar.{Scalar}
 use Rattle.zx_model.proofs.Scalars.{scaled_trans, scaled_over}
 use Rattle.zx_model.proofs.Factors.{scaled_renamed}
 use Rattle.zx_calculus.specs.Graph.{Graph}
-use Rattle.zx_calculus.specs.Sum.{sum}
+use Rattle.zx_calculus.specs.Sum.{graph_sum}
 use Rattle.zx_calculus.specs.Steps.{Step, IsRun}
 use Rattle.zx_calculus.specs.StepScalars.{IsSumTimes}
 use Rattle.zx_gates.specs.Circuit.{Circuit, IsCircuit}
@@ -24,10 +24,10 @@ use Rattle.zx_calculus.proofs.Kept.{sum_below}
 
 -- the map of a circuit by a graph to which its own leads
 by_end : (c : Circuit) (t : GraphSoFar) (h : Graph) (s : Scalar) → Translates c t → IsSumTimes (translated c) s h →
-    IsScaled c.qubits c.qubits (amp c.gates) (product_of_scalars (map_scalar c.gates) s) (sum h)
+    IsScaled c.qubits c.qubits (amp c.gates) (product_of_scalars (map_scalar c.gates) s) (graph_sum h)
 by_end c t h s e p =
-    scaled_trans c.qubits c.qubits (amp c.gates) (sum (translated c)) (sum h) (map_scalar c.gates) s
-    (subst (λ g. IsScaled c.qubits c.qubits (amp c.gates) (map_scalar c.gates) (sum g)) e.graph e.scaled)
+    scaled_trans c.qubits c.qubits (amp c.gates) (graph_sum (translated c)) (graph_sum h) (map_scalar c.gates) s
+    (subst (λ g. IsScaled c.qubits c.qubits (amp c.gates) (map_scalar c.gates) (graph_sum g)) e.graph e.scaled)
     (λ x y l m. p x y (l ∙ sym inputs) (m ∙ sym outputs))
   where
     inputs : length (translated c).inputs ≡ c.qubits
@@ -44,7 +44,7 @@ have_quotient : (c : Circuit) (gates : List Gate) (h : Graph) (u v : GraphSoFar)
 have_quotient c gates h u v a b same s t low p q =
     scaled_renamed c.qubits c.qubits (amp c.gates) (amp gates) (quotient_of_scalars (product_of_scalars (map_scalar c.gates) s) (product_of_scalars (map_scalar gates) t)) (quotient_of_scalars s t)
     exponents (ap root_power (common_turn s.turn t.turn low))
-    (scaled_over c.qubits c.qubits (amp c.gates) (sum h) (amp gates) (product_of_scalars (map_scalar c.gates) s) (product_of_scalars (map_scalar gates) t) (sum_below 0 t.turn)
+    (scaled_over c.qubits c.qubits (amp c.gates) (graph_sum h) (amp gates) (product_of_scalars (map_scalar c.gates) s) (product_of_scalars (map_scalar gates) t) (sum_below 0 t.turn)
     (by_end c u h s a p) (by_end (with_gates c gates) v h t b q))
   where
     exponents : (quotient_of_scalars (product_of_scalars (map_scalar c.gates) s) (product_of_scalars (map_scalar gates) t)).root2 ≡ s.root2 -ℤ t.root2

@@ -6,8 +6,8 @@ use Rattle.zx_model.specs.Phase.{turn, sum_of_phases}
 use Rattle.zx_model.specs.Proportional.{Proportional}
 use Rattle.zx_model.specs.Bits.{member}
 use Rattle.zx_model.proofs.ProportionalLemmas.{proportional_sym, proportional_trans}
-use Rattle.zx_calculus.specs.Graph.{Graph, in_order, Live, WellFormed, Distinct}
-use Rattle.zx_calculus.specs.Sum.{sum}
+use Rattle.zx_calculus.specs.Graph.{Graph, in_order, IsVertex, WellFormed, Distinct}
+use Rattle.zx_calculus.specs.Sum.{graph_sum}
 use Rattle.zx_calculus.specs.Steps.{Step, IsRun}
 use Rattle.zx_calculus.specs.StepScalars.{KeepsMap}
 use Rattle.zx_calculus.proofs.Ids.{by_test, Distinct-rising, member-filter, and-right}
@@ -74,9 +74,9 @@ module _ (c : Circuit) (formed : IsCircuit c) where
   pub graph_formed : WellFormed (translated c)
   graph_formed = subst WellFormed (translates c (λ i. 0) formed).graph (translates c (λ i. 0) formed).well_formed
 
-  pub gates_there : (i : ℕ) → member i (odd_gates c) ≡ true → Live (translated c) (vertex_at c i)
+  pub gates_there : (i : ℕ) → member i (odd_gates c) ≡ true → IsVertex (translated c) (vertex_at c i)
   gates_there i there =
-      subst (λ g. Live g (vertex_at c i)) (translates c (λ i. 0) formed).graph
+      subst (λ g. IsVertex g (vertex_at c i)) (translates c (λ i. 0) formed).graph
       (places_live c.gates (begun c.qubits) (translation c (λ i. 0) formed).last i (vertex_at c i) (ready c.qubits) (translation c (λ i. 0) formed).run
       (odd_placed (wires c.qubits) c.gates i (odd_gates-odd c i there)))
 
@@ -121,8 +121,8 @@ module _ (c : Circuit) (formed : IsCircuit c) where
     sum_kept = keeps_the_sum (translated c) steps h run graph_formed _ (vertex_at c) (odd_gates c) change_gates
         (change_balanced (phase_at c) (spots_of c steps h run) (odd_gates c) (phase_at-low c formed) (odd_gates-distinct c))
 
-    read_map : Proportional c.qubits c.qubits (sum (translated c)) (amp c.gates)
-    read_map = subst (λ g. Proportional c.qubits c.qubits (sum g) (amp c.gates)) (translates c (λ i. 0) formed).graph
+    read_map : Proportional c.qubits c.qubits (graph_sum (translated c)) (amp c.gates)
+    read_map = subst (λ g. Proportional c.qubits c.qubits (graph_sum g) (amp c.gates)) (translates c (λ i. 0) formed).graph
         (translated_map c (translation c (λ i. 0) formed).last (translates c (λ i. 0) formed))
 
     inputs : length (translated c).inputs ≡ c.qubits
@@ -131,19 +131,19 @@ module _ (c : Circuit) (formed : IsCircuit c) where
     outputs : length (translated c).outputs ≡ c.qubits
     outputs = ap (λ (g : Graph). length g.outputs) (sym (translates c (λ i. 0) formed).graph) ∙ (translates c (λ i. 0) formed).outputs
 
-    new_map : Proportional c.qubits c.qubits (sum (shifted (placed (change (phase_at c) (teleported (phase_at c) (spots_of c steps h run) (odd_gates c))) (vertex_at c) (odd_gates c)) (translated c))) (amp (teleported_gates c steps h run))
-    new_map = subst (λ m. Proportional c.qubits c.qubits (sum (shifted m (translated c))) (amp (teleported_gates c steps h run))) (λ i v. adds v i)
+    new_map : Proportional c.qubits c.qubits (graph_sum (shifted (placed (change (phase_at c) (teleported (phase_at c) (spots_of c steps h run) (odd_gates c))) (vertex_at c) (odd_gates c)) (translated c))) (amp (teleported_gates c steps h run))
+    new_map = subst (λ m. Proportional c.qubits c.qubits (graph_sum (shifted m (translated c))) (amp (teleported_gates c steps h run))) (λ i v. adds v i)
         (map_there c (new_phase c (spots_of c steps h run)) formed)
 
-    kept : Proportional c.qubits c.qubits (sum (shifted (placed (change (phase_at c) (teleported (phase_at c) (spots_of c steps h run) (odd_gates c))) (vertex_at c) (odd_gates c)) (translated c))) (sum (translated c))
-    kept = subst (λ n. Proportional n c.qubits (sum (shifted (placed (change (phase_at c) (teleported (phase_at c) (spots_of c steps h run) (odd_gates c))) (vertex_at c) (odd_gates c)) (translated c))) (sum (translated c))) inputs
-        (subst (λ m. Proportional (length (translated c).inputs) m (sum (shifted (placed (change (phase_at c) (teleported (phase_at c) (spots_of c steps h run) (odd_gates c))) (vertex_at c) (odd_gates c)) (translated c))) (sum (translated c))) outputs sum_kept)
+    kept : Proportional c.qubits c.qubits (graph_sum (shifted (placed (change (phase_at c) (teleported (phase_at c) (spots_of c steps h run) (odd_gates c))) (vertex_at c) (odd_gates c)) (translated c))) (graph_sum (translated c))
+    kept = subst (λ n. Proportional n c.qubits (graph_sum (shifted (placed (change (phase_at c) (teleported (phase_at c) (spots_of c steps h run) (odd_gates c))) (vertex_at c) (odd_gates c)) (translated c))) (graph_sum (translated c))) inputs
+        (subst (λ m. Proportional (length (translated c).inputs) m (graph_sum (shifted (placed (change (phase_at c) (teleported (phase_at c) (spots_of c steps h run) (odd_gates c))) (vertex_at c) (odd_gates c)) (translated c))) (graph_sum (translated c))) outputs sum_kept)
 
     pub map_kept : Proportional c.qubits c.qubits (amp (teleported_gates c steps h run)) (amp c.gates)
     map_kept =
-        proportional_trans c.qubits c.qubits (amp (teleported_gates c steps h run)) (sum (shifted (placed (change (phase_at c) (teleported (phase_at c) (spots_of c steps h run) (odd_gates c))) (vertex_at c) (odd_gates c)) (translated c))) (amp c.gates)
+        proportional_trans c.qubits c.qubits (amp (teleported_gates c steps h run)) (graph_sum (shifted (placed (change (phase_at c) (teleported (phase_at c) (spots_of c steps h run) (odd_gates c))) (vertex_at c) (odd_gates c)) (translated c))) (amp c.gates)
         (proportional_sym c.qubits c.qubits _ _ new_map)
-        (proportional_trans c.qubits c.qubits _ (sum (translated c)) (amp c.gates) kept read_map)
+        (proportional_trans c.qubits c.qubits _ (graph_sum (translated c)) (amp c.gates) kept read_map)
 
 pub teleported_map : (c : Circuit) (steps : List Step) (h : Graph) (run : IsRun (translated c) steps h) → IsCircuit c → Proportional c.qubits c.qubits (amp (teleported_gates c steps h run)) (amp c.gates)
 teleported_map c steps h run formed = map_kept c formed steps h run

@@ -3,7 +3,7 @@ use Rattle.std.proofs.Common.{◌≡◌, refl, sym, ◌∙◌, ap, subst, ℕ, s
 use Rattle.zx_model.specs.Phase.{turn}
 use Rattle.zx_model.specs.Proportional.{Proportional}
 use Rattle.zx_calculus.specs.Graph.{Kind, with_kinds}
-use Rattle.zx_calculus.specs.Sum.{sum}
+use Rattle.zx_calculus.specs.Sum.{graph_sum}
 use Rattle.zx_calculus.specs.Gadgets.{fuse_kind}
 use Rattle.zx_calculus.specs.Turns.{in_plane}
 use Rattle.zx_calculus.proofs.Ids.{by_equal}
@@ -69,8 +69,8 @@ module _ (c : Circuit) (phase : ℕ → ℕ) (formed : IsCircuit c) where
   pub graph_there : translated (with_gates c (without_idle (with_phases phase 0 c.gates))) ≡ shifted (added_by c phase) (translated c)
   graph_there = sym translates_there.graph ∙ ap (shifted (added_by c phase)) (translates c phase formed).graph
 
-  pub map_there : Proportional c.qubits c.qubits (sum (shifted (added_by c phase) (translated c))) (amp (without_idle (with_phases phase 0 c.gates)))
-  map_there = subst (λ g. Proportional c.qubits c.qubits (sum (shifted (added_by c phase) g)) (amp (without_idle (with_phases phase 0 c.gates)))) (translates c phase formed).graph
+  pub map_there : Proportional c.qubits c.qubits (graph_sum (shifted (added_by c phase) (translated c))) (amp (without_idle (with_phases phase 0 c.gates)))
+  map_there = subst (λ g. Proportional c.qubits c.qubits (graph_sum (shifted (added_by c phase) g)) (amp (without_idle (with_phases phase 0 c.gates)))) (translates c phase formed).graph
       (translated_map _ (shifted_state (added_by c phase) (translation c phase formed).last) translates_there)
 
 -- ---- as many gates are written out

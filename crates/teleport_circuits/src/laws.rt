@@ -3,7 +3,7 @@
 ghost use Rattle.std.specs.Prelude.{◌≡◌, ◌<◌, ℕ};
 ghost use Rattle.zx_model.specs.Phase.{turn};
 ghost use Rattle.zx_model.specs.Proportional.{Proportional};
-ghost use Rattle.zx_calculus.specs.Sum.{sum};
+ghost use Rattle.zx_calculus.specs.Sum.{graph_sum};
 ghost use Rattle.zx_gates.specs.Circuit.{Circuit, IsCircuit};
 ghost use Rattle.zx_gates.specs.Maps.{amp};
 ghost use Rattle.circuit_graph.specs.Translation.{translated};
@@ -18,7 +18,7 @@ pub fn other_phases_are_added()
         translated (with_gates c (without_idle (with_phases phase 0 c.gates)))
         ≡ shifted (added_by c phase) (translated c) }
     ensures map { (c : Circuit) (phase : ℕ → ℕ) → IsCircuit c → ((i : ℕ) → phase i < turn) →
-        Proportional c.qubits c.qubits (sum (shifted (added_by c phase) (translated c)))
+        Proportional c.qubits c.qubits (graph_sum (shifted (added_by c phase) (translated c)))
         (amp (without_idle (with_phases phase 0 c.gates))) }
     ensures skeleton { (c : Circuit) (phase : ℕ → ℕ) →
         IsSkeleton c.gates (without_idle (with_phases phase 0 c.gates)) }

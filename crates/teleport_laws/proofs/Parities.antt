@@ -3,7 +3,7 @@ use Rattle.std.proofs.Common.{◌≡◌, ◌≢◌, inl, inr, refl, sym, ◌∙�
 use Rattle.zx_model.specs.Phase.{turn, quarter_turn, is_odd, IsHalfTurns}
 use Rattle.zx_model.specs.Bits.{member, one_if}
 use Rattle.zx_model.proofs.Odd.{is_odd-opposite}
-use Rattle.zx_calculus.specs.Graph.{Kind, Vertex, Graph, ids, kind_of, phase_of, without, Live, WellFormed}
+use Rattle.zx_calculus.specs.Graph.{Kind, Vertex, Graph, ids, kind_of, phase_of, without, IsVertex, WellFormed}
 use Rattle.zx_calculus.specs.Counts.{odd_phases}
 use Rattle.zx_calculus.specs.Steps.{Step, LocalComplement, Delete, Pivot, SplitInput, SplitOutput, DropLone, FuseInto, FuseTwin, IsStep, IsRun}
 use Rattle.zx_calculus.proofs.Ids.{by_test, by_equal, Distinct, member-here, member-there, apart_of_member}
@@ -140,7 +140,7 @@ module _ (g : Graph) (steps : List Step) (h : Graph) (run : IsRun g steps h) (ph
   odd_there : (i : ℕ) → is_new_odd i ≡ true → is_odd (phase_of h (vertex_in (ends i).holder)) ≡ true
   odd_there i odd = ap (λ x. not (eqb x 0)) (run_rests phase low gates g steps h run (λ i. spot_at (vertex_of i)) w of (vertex_in (ends i).holder)) ∙ (tells i odd).odd
 
-  live_there : (v : ℕ) → is_odd (phase_of h v) ≡ true → Live h v
+  live_there : (v : ℕ) → is_odd (phase_of h v) ≡ true → IsVertex h v
   live_there v odd =
       by_test (member v (ids h.vertices)) (λ t. t) (λ f. absurd (true≢false (sym odd ∙ ap (λ (k : Kind). is_odd k.phase) (kind_of-absent h.vertices v f))))
 

@@ -3,8 +3,8 @@ use Rattle.std.proofs.Common.{◌≡◌, refl, sym, ap, ap₂, subst, ℕ, ◌<�
 use Rattle.zx_model.specs.Phase.{turn, sum_of_phases}
 use Rattle.zx_model.specs.Bits.{member}
 use Rattle.zx_model.proofs.ProportionalLemmas.{proportional_sym, proportional_trans}
-use Rattle.zx_calculus.specs.Graph.{Graph, ids, Live, WellFormed, OrderedEdges}
-use Rattle.zx_calculus.specs.Sum.{sum}
+use Rattle.zx_calculus.specs.Graph.{Graph, ids, IsVertex, WellFormed, OrderedEdges}
+use Rattle.zx_calculus.specs.Sum.{graph_sum}
 use Rattle.zx_calculus.specs.Steps.{Step, IsRun}
 use Rattle.zx_calculus.proofs.Ids.{member-here, member-there, apart_of_member}
 use Rattle.zx_calculus.proofs.Kept.{kept_kinds}
@@ -27,7 +27,7 @@ shifted_formed g more w =
     low_sum j k = omega arith
 
 -- no phase where there is no vertex
-pub placed-absent : (g : Graph) (phase vertex_of : ℕ → ℕ) (gates : List ℕ) (v : ℕ) → ((i : ℕ) → member i gates ≡ true → Live g (vertex_of i)) → member v (ids g.vertices) ≡ false → placed phase vertex_of gates v ≡ 0
+pub placed-absent : (g : Graph) (phase vertex_of : ℕ → ℕ) (gates : List ℕ) (v : ℕ) → ((i : ℕ) → member i gates ≡ true → IsVertex g (vertex_of i)) → member v (ids g.vertices) ≡ false → placed phase vertex_of gates v ≡ 0
 placed-absent g phase vertex_of [] v there absent = refl
 placed-absent g phase vertex_of (i ∷ is) v there absent =
     ap₂ sum_of_phases
@@ -46,9 +46,9 @@ leads_to_the_same g steps h run w phase vertex_of gates of balanced =
 
 pub keeps_the_sum : (g : Graph) (steps : List Step) (h : Graph) (run : IsRun g steps h) → WellFormed g → KeepsTheSum g steps h run
 keeps_the_sum g steps h run w phase vertex_of gates of balanced =
-    proportional_trans (length g.inputs) (length g.outputs) (sum (shifted (placed phase vertex_of gates) g)) (sum h) (sum g)
+    proportional_trans (length g.inputs) (length g.outputs) (graph_sum (shifted (placed phase vertex_of gates) g)) (graph_sum h) (graph_sum g)
     (run_proportional (shifted (placed phase vertex_of gates) g) steps h (shifted_formed g (placed phase vertex_of gates) w) (leads_to_the_same g steps h run w phase vertex_of gates of balanced))
-    (proportional_sym (length g.inputs) (length g.outputs) (sum g) (sum h) (run_proportional g steps h w run))
+    (proportional_sym (length g.inputs) (length g.outputs) (graph_sum g) (graph_sum h) (run_proportional g steps h w run))
 
 pub has_few_odd : (g : Graph) (steps : List Step) (h : Graph) (run : IsRun g steps h) → WellFormed g → HasFewOdd g steps h run
 has_few_odd g steps h run w phase vertex_of gates of d even =

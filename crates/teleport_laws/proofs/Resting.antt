@@ -2,7 +2,7 @@
 use Rattle.std.proofs.Common.{◌≡◌, ◌≢◌, refl, sym, ◌∙◌, ap, ap₂, ℕ, ◌%◌, ◌<◌, Bool, true, false, cond, not, ◌&&◌, ◌||◌, eqb, List, [], ◌∷◌, arith}
 use Rattle.zx_model.specs.Phase.{turn, half_turn, quarter_turn, sum_of_phases, opposite_phase}
 use Rattle.zx_model.specs.Bits.{member}
-use Rattle.zx_calculus.specs.Graph.{Plane, XY, XZ, YZ, Kind, Vertex, Graph, ids, kind_of, plane_of, phase_of, joined, is_XY, is_XZ, with_kinds, without, insert_vertex, Live, WellFormed}
+use Rattle.zx_calculus.specs.Graph.{Plane, XY, XZ, YZ, Kind, Vertex, Graph, ids, kind_of, plane_of, phase_of, joined, is_XY, is_XZ, with_kinds, without, insert_vertex, IsVertex, WellFormed}
 use Rattle.zx_calculus.specs.Turns.{in_plane, quarter_turned, half_turned, complemented, pivoted}
 use Rattle.zx_calculus.specs.Complements.{complement_kind}
 use Rattle.zx_calculus.specs.Deletions.{delete_kind}
@@ -111,7 +111,7 @@ module _ (g : Graph) (w : WellFormed g) (more : ℕ → ℕ) (low : AreBelow mor
   gone_phase change u h v vertices e =
       ap (λ (k : Kind). k.phase) (kind_of-absent h.vertices v (ap (λ vs. member v (ids vs)) vertices ∙ ap (member v) (ids-with_kinds change (without u g.vertices)) ∙ ap (λ x. member x (ids (without u g.vertices))) e ∙ member-without u g.vertices))
 
-  left_kind : (change : ℕ → Kind → Kind) (u : ℕ) (h : Graph) (v : ℕ) → h.vertices ≡ with_kinds change (without u g.vertices) → v ≢ u → Live g v → kind_of h.vertices v ≡ change v (kind_of g.vertices v)
+  left_kind : (change : ℕ → Kind → Kind) (u : ℕ) (h : Graph) (v : ℕ) → h.vertices ≡ with_kinds change (without u g.vertices) → v ≢ u → IsVertex g v → kind_of h.vertices v ≡ change v (kind_of g.vertices v)
   left_kind change u h v vertices apart there =
       ap (λ vs. kind_of vs v) vertices ∙ kind_of-with_kinds change v (without u g.vertices) (member-without_other v u g.vertices apart ∙ there)
       ∙ ap (change v) (kind_of-without v u g.vertices apart)
@@ -128,7 +128,7 @@ module _ (g : Graph) (w : WellFormed g) (more : ℕ → ℕ) (low : AreBelow mor
       (λ f. ap (λ k. k % quarter_turn) (left_absent change u h v vertices apart f) ∙ none_left n v f)
 
   -- u is fused into another
-  rest_fused : (u into : ℕ) (h : Graph) (v : ℕ) → Live g into → h.vertices ≡ with_kinds (fuse_kind into (phase_of g u)) (without u g.vertices) → AreAlike (phase_of h v) (joined_phases u into more v)
+  rest_fused : (u into : ℕ) (h : Graph) (v : ℕ) → IsVertex g into → h.vertices ≡ with_kinds (fuse_kind into (phase_of g u)) (without u g.vertices) → AreAlike (phase_of h v) (joined_phases u into more v)
   rest_fused u into h v there vertices =
       out_of v u _ (phase_of h v) (gone_phase (fuse_kind into (phase_of g u)) u h v vertices)
       (λ apart. by_equal v into

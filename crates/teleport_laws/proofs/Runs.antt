@@ -2,7 +2,7 @@
 use Rattle.std.proofs.Common.{◌≡◌, ◌≢◌, refl, sym, ◌∙◌, ap, ap₂, subst, ℕ, suc, ◌<◌, ◌≤◌, Bool, true, false, cond, not, ◌&&◌, eqb, List, [], ◌∷◌, length, true≢false, ne_eqb, arith}
 use Rattle.zx_model.specs.Phase.{turn, half_turn, sum_of_phases}
 use Rattle.zx_model.specs.Bits.{xor, member}
-use Rattle.zx_calculus.specs.Graph.{Kind, Vertex, Graph, ids, phase_of, plane_of, is_XY, with_kinds, without, insert_vertex, Live, WellFormed}
+use Rattle.zx_calculus.specs.Graph.{Kind, Vertex, Graph, ids, phase_of, plane_of, is_XY, with_kinds, without, insert_vertex, IsVertex, WellFormed}
 use Rattle.zx_calculus.specs.Turns.{with_phase_added}
 use Rattle.zx_calculus.specs.Steps.{Step, LocalComplement, Delete, Pivot, SplitInput, SplitOutput, DropLone, FuseInto, FuseTwin, IsStep, IsRun}
 use Rattle.zx_calculus.specs.Gadgets.{first_of_list}
@@ -52,10 +52,10 @@ insert_absent : (n : Vertex) (vs ws : List Vertex) (v : ℕ) → ws ≡ insert_v
 insert_absent n vs ws v e absent = or-right (eqb v n.id) _ (sym (member-insert v n vs) ∙ sym (ap (λ zs. member v (ids zs)) e) ∙ absent)
 
 -- a vertex that is there is no absent one
-into_apart : (g : Graph) (into v : ℕ) → Live g into → member v (ids g.vertices) ≡ false → v ≢ into
+into_apart : (g : Graph) (into v : ℕ) → IsVertex g into → member v (ids g.vertices) ≡ false → v ≢ into
 into_apart g into v there absent e = true≢false (sym there ∙ ap (λ u. member u (ids g.vertices)) (sym e) ∙ absent)
 
-fused_absent : (g : Graph) (u into : ℕ) (more : ℕ → ℕ) (v : ℕ) → IsShift g more → Live g into → (v ≢ u → member v (ids g.vertices) ≡ false) → joined_phases u into more v ≡ 0
+fused_absent : (g : Graph) (u into : ℕ) (more : ℕ → ℕ) (v : ℕ) → IsShift g more → IsVertex g into → (v ≢ u → member v (ids g.vertices) ≡ false) → joined_phases u into more v ≡ 0
 fused_absent g u into more v shift there before =
     out_nothing v u _ (λ apart. ap (λ b. cond b (sum_of_phases (more into) (more u)) (more v)) (ne_eqb v into (into_apart g into v there (before apart))) ∙ shift.absent v (before apart))
 

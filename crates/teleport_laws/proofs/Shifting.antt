@@ -2,7 +2,7 @@
 use Rattle.std.proofs.Common.{◌≡◌, ◌≢◌, refl, sym, ◌∙◌, ap, subst, ℕ, ◌<◌, Bool, true, false, cond, not, ◌&&◌, ◌||◌, eqb, List, [], ◌∷◌, arith}
 use Rattle.zx_model.specs.Phase.{turn, half_turn, quarter_turn, sum_of_phases, opposite_phase}
 use Rattle.zx_model.specs.Bits.{member}
-use Rattle.zx_calculus.specs.Graph.{Plane, XY, XZ, YZ, Kind, Vertex, Graph, ids, joined, kind_of, plane_of, phase_of, is_XY, is_XZ, Live, Interior, with_kinds, without, insert_vertex, WellFormed, OrderedEdges}
+use Rattle.zx_calculus.specs.Graph.{Plane, XY, XZ, YZ, Kind, Vertex, Graph, ids, joined, kind_of, plane_of, phase_of, is_XY, is_XZ, IsVertex, Interior, with_kinds, without, insert_vertex, WellFormed, OrderedEdges}
 use Rattle.zx_calculus.specs.Turns.{in_plane, quarter_turned, half_turned, complemented, pivoted, with_phase_added}
 use Rattle.zx_calculus.specs.Edits.{KeepsEnds}
 use Rattle.zx_calculus.specs.Complements.{complement_kind, IsLocalComplement}
@@ -32,10 +32,10 @@ plane-shifted more g v = plane-added more g.vertices v
 pub ids-shifted : (more : ℕ → ℕ) (g : Graph) → ids (shifted more g).vertices ≡ ids g.vertices
 ids-shifted more g = ids-with_kinds (add_kind more) g.vertices
 
-pub live-shifted : (more : ℕ → ℕ) (g : Graph) (v : ℕ) → Live g v → Live (shifted more g) v
+pub live-shifted : (more : ℕ → ℕ) (g : Graph) (v : ℕ) → IsVertex g v → IsVertex (shifted more g) v
 live-shifted more g v there = ap (member v) (ids-shifted more g) ∙ there
 
-pub phase-shifted : (more : ℕ → ℕ) (g : Graph) (v : ℕ) → Live g v → phase_of (shifted more g) v ≡ sum_of_phases (phase_of g v) (more v)
+pub phase-shifted : (more : ℕ → ℕ) (g : Graph) (v : ℕ) → IsVertex g v → phase_of (shifted more g) v ≡ sum_of_phases (phase_of g v) (more v)
 phase-shifted more g v there = ap (λ (k : Kind). k.phase) (kind_of-with_kinds (add_kind more) v g.vertices there)
 
 interior-shifted : (more : ℕ → ℕ) (g : Graph) (v : ℕ) → Interior g v → Interior (shifted more g) v
@@ -103,7 +103,7 @@ module _ (g : Graph) (w : WellFormed g) (more : ℕ → ℕ) (shift : IsShift g 
 
   -- where vertices change their kinds, those with more phase do so likewise
   alike : (h : Graph) (change changed : ℕ → Kind → Kind) (after : ℕ → ℕ) → h.vertices ≡ with_kinds change g.vertices →
-      ((p : ℕ) → Live g p → add_kind after p (change p (kind_of g.vertices p)) ≡ changed p (add_kind more p (kind_of g.vertices p))) →
+      ((p : ℕ) → IsVertex g p → add_kind after p (change p (kind_of g.vertices p)) ≡ changed p (add_kind more p (kind_of g.vertices p))) →
       (shifted after h).vertices ≡ with_kinds changed (shifted more g).vertices
   alike h change changed after vertices same =
       ap (with_kinds (add_kind after)) vertices ∙ with_kinds-with_kinds (add_kind after) change g.vertices
@@ -112,7 +112,7 @@ module _ (g : Graph) (w : WellFormed g) (more : ℕ → ℕ) (shift : IsShift g 
 
   -- and where one of them goes
   alike_without : (u : ℕ) (h : Graph) (change changed : ℕ → Kind → Kind) (after : ℕ → ℕ) → h.vertices ≡ with_kinds change (without u g.vertices) →
-      ((p : ℕ) → Live g p → p ≢ u → add_kind after p (change p (kind_of g.vertices p)) ≡ changed p (add_kind more p (kind_of g.vertices p))) →
+      ((p : ℕ) → IsVertex g p → p ≢ u → add_kind after p (change p (kind_of g.vertices p)) ≡ changed p (add_kind more p (kind_of g.vertices p))) →
       (shifted after h).vertices ≡ with_kinds changed (without u (shifted more g).vertices)
   alike_without u h change changed after vertices same =
       ap (with_kinds (add_kind after)) vertices ∙ with_kinds-with_kinds (add_kind after) change (without u g.vertices)
@@ -210,7 +210,7 @@ module _ (g : Graph) (w : WellFormed g) (more : ℕ → ℕ) (shift : IsShift g 
   }
 
   -- u is fused into v
-  alike_fused : (u v : ℕ) (h : Graph) → Live g u → h.vertices ≡ with_kinds (fuse_kind v (phase_of g u)) (without u g.vertices) →
+  alike_fused : (u v : ℕ) (h : Graph) → IsVertex g u → h.vertices ≡ with_kinds (fuse_kind v (phase_of g u)) (without u g.vertices) →
       (shifted (joined_phases u v more) h).vertices ≡ with_kinds (fuse_kind v (phase_of (shifted more g) u)) (without u (shifted more g).vertices)
   alike_fused u v h there_u vertices =
       alike_without u h (fuse_kind v (phase_of g u)) (fuse_kind v (phase_of (shifted more g) u)) (joined_phases u v more) vertices

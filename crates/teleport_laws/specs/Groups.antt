@@ -6,7 +6,7 @@ use Rattle.std.specs.Prelude.{◌≡◌, ◌<◌, ◌≤◌, ℕ, Bool, true, fa
 use Rattle.std.specs.Prelude.{length, filter}
 use Rattle.zx_model.specs.Phase.{turn, quarter_turn, is_odd, sum_of_phases, opposite_phase}
 use Rattle.zx_model.specs.Bits.{member}
-use Rattle.zx_calculus.specs.Graph.{Graph, phase_of, Live, Distinct}
+use Rattle.zx_calculus.specs.Graph.{Graph, phase_of, IsVertex, Distinct}
 use Rattle.zx_calculus.specs.Counts.{odd_phases}
 use Rattle.zx_calculus.specs.StepScalars.{KeepsMap}
 use Rattle.zx_calculus.specs.Steps.{Step, IsRun}
@@ -71,7 +71,7 @@ IsBalanced phase spot gates = (holder : Holder) → is_dropped holder ≡ false 
 -- gates by their numbers, each with a phase below a turn, at a vertex of the graph
 pub record AreGatesOf (g : Graph) (phase vertex_of : ℕ → ℕ) (gates : List ℕ) : Type 0 where
   pub below : (i : ℕ) → phase i < turn
-  pub there : (i : ℕ) → member i gates ≡ true → Live g (vertex_of i)
+  pub there : (i : ℕ) → member i gates ≡ true → IsVertex g (vertex_of i)
 
 -- with phases added that add up to nothing wherever gates end up together, the run leads to the same end
 abbrev pub LeadsToTheSame : (g : Graph) (steps : List Step) (h : Graph) → IsRun g steps h → Type 0

@@ -1,7 +1,7 @@
 -- Planes and phases changed vertex by vertex.
 use Rattle.std.proofs.Common.{◌≡◌, refl, sym, ◌∙◌, ap, ap₂, subst, ℕ, Bool, true, false, cond, ltb, ne_eqb, List, [], ◌∷◌, filter}
 use Rattle.zx_model.specs.Bits.{member}
-use Rattle.zx_calculus.specs.Graph.{Kind, Vertex, Graph, ids, joined, kind_of, neighbours, with_kinds, insert_vertex, Distinct, Live, OrderedEdges}
+use Rattle.zx_calculus.specs.Graph.{Kind, Vertex, Graph, ids, joined, kind_of, neighbours, with_kinds, insert_vertex, Distinct, IsVertex, OrderedEdges}
 use Rattle.zx_calculus.specs.Edits.{KeepsEnds}
 use Rattle.zx_calculus.specs.Turns.{quarter_turned, half_turned}
 use Rattle.zx_calculus.proofs.Ids.{by_test, eqb-self, member-here, member-there, apart_of_member}
@@ -54,7 +54,7 @@ pub turned_neighbours : (f : ℕ → Kind → Kind) (g h : Graph) (u : ℕ) → 
 turned_neighbours f g h u e =
     ap (λ l. neighbours l u) e ∙ ap (filter (joined g.edges u)) (ids-with_kinds f g.vertices)
 
-pub turned_live : (f : ℕ → Kind → Kind) (g h : Graph) (p : ℕ) → h ≡ with_changed f g → Live g p → Live h p
+pub turned_live : (f : ℕ → Kind → Kind) (g h : Graph) (p : ℕ) → h ≡ with_changed f g → IsVertex g p → IsVertex h p
 turned_live f g h p e there = ap (λ l. member p (ids l.vertices)) e ∙ ap (member p) (ids-with_kinds f g.vertices)
     ∙ there
 

@@ -13,7 +13,7 @@ use Rattle.zx_calculus.specs.Complements.{complement_kind, IsLocalComplement}
 use Rattle.zx_calculus.specs.Parity.{masked}
 use Rattle.zx_calculus.specs.Internal.Pairs.{quad}
 use Rattle.zx_calculus.proofs.Factors.{quarter_cost, product_of, complement_right, complement_left_in, complement_right_in}
-use Rattle.zx_calculus.specs.Sum.{spider, sum, vertex_product}
+use Rattle.zx_calculus.specs.Sum.{spider, graph_sum, vertex_product}
 use Rattle.zx_calculus.specs.Counts.{odd_phases, even_interior, not_XY}
 use Rattle.zx_calculus.specs.Adjacency.{edges_of}
 use Rattle.zx_calculus.specs.Steps.{allowed, after, LocalComplement}
@@ -91,9 +91,9 @@ module _ (g : Graph) (u : ℕ) (h : Graph) (wg : WellFormed g) (wh : WellFormed 
     abbrev summand : Kind → List ℕ → List Vertex → (ℕ → Bool) → Number
     summand kind is vs label = mul (transform kind (masked (joined h.edges u) is label)) (mul (vertex_product vs label) (mul (sign (quad (joined h.edges) is label)) (rest label)))
 
-    sum_after : sum h x y ≡ sum_over (ids ws) (summand (complemented (kind_of g.vertices u)) (ids ws) turned)
+    sum_after : graph_sum h x y ≡ sum_over (ids ws) (summand (complemented (kind_of g.vertices u)) (ids ws) turned)
     sum_after =
-        ap (λ k. sum k x y) same_shape
+        ap (λ k. graph_sum k x y) same_shape
         ∙ sum_without (with_parts g changed h.edges) u x y (subst WellFormed same_shape wh) (ap (member u) (ids-with_kinds (complement_kind u (joined g.edges u)) g.vertices) ∙ c.there)
         (record { no_input = c.interior.no_input; no_output = c.interior.no_output })
         ∙ ap₂ (λ k vs. sum_over (ids vs) (summand k (ids vs) vs)) kind_after rest_after
@@ -134,7 +134,7 @@ module _ (g : Graph) (u : ℕ) (h : Graph) (wg : WellFormed g) (wh : WellFormed 
         ∙ ap₂ (λ m s. mul (mul own cost) (mul (transform (complemented (kind_of g.vertices u)) m) (mul (vertex_product turned label) (mul s (rest label)))))
         (sym (parity_after label)) (mul-sign _ _ ∙ ap sign (sym (edges_after label)))
 
-    pub complement_sum : mul (complement_left_in (plane_of g u)) (sum g x y) ≡ mul (complement_right g u) (sum h x y)
+    pub complement_sum : mul (complement_left_in (plane_of g u)) (graph_sum g x y) ≡ mul (complement_right g u) (graph_sum h x y)
     complement_sum =
         ap (mul (complement_left_in (plane_of g u))) (sum_without g u x y wg c.there c.interior)
         ∙ sum_over_scaled (complement_left_in (plane_of g u)) (mul own cost) (ids ws) _ _ at_label

@@ -11,7 +11,7 @@ use Rattle.zx_model.proofs.Phases.{half_turns_from, half_turns_to}
 use Rattle.zx_calculus.specs.Deletions.{delete_kind, IsDeletable, IsDelete, may_delete}
 use Rattle.zx_calculus.specs.Turns.{half_turned, in_plane}
 use Rattle.zx_calculus.specs.Graph.{phase_of, WellFormed, joined, Graph, plane_of, YZ, Plane, XY, XZ, ids, with_kinds, Vertex, without, kind_of, Kind, is_XY}
-use Rattle.zx_calculus.specs.Sum.{vertex_product, sum}
+use Rattle.zx_calculus.specs.Sum.{vertex_product, graph_sum}
 use Rattle.zx_calculus.proofs.Factors.{half_cost, product_of, delete_half_in, delete_right}
 use Rattle.zx_calculus.specs.Parity.{masked}
 use Rattle.zx_calculus.specs.Counts.{not_XY, odd_phases, even_interior}
@@ -90,7 +90,7 @@ deleted_at plane k near m all ws label n (inr e) costs parity below =
     ∙ ap (λ t. mul t (vertex_product ws label)) (picked_signs near (ids ws) label ∙ ap sign parity))
     ∙ ap (λ t. mul (mul (delete_half_in plane) t) (vertex_product (with_kinds (turn_near half_turned near) ws) label)) costs)
 
-pub delete_sum : (g : Graph) (u : ℕ) (h : Graph) (x y : List Bool) → WellFormed g → WellFormed h → IsDelete g u h → mul one (sum g x y) ≡ mul (delete_right g u) (sum h x y)
+pub delete_sum : (g : Graph) (u : ℕ) (h : Graph) (x y : List Bool) → WellFormed g → WellFormed h → IsDelete g u h → mul one (graph_sum g x y) ≡ mul (delete_right g u) (graph_sum h x y)
 delete_sum g u h x y wg wh c =
     removal_sum g u (delete_kind (phase_of g u) (joined g.edges u)) h wg wh (is_removal g u h wg c) (delete_right g u) x y
     (λ label. deleted_at (plane_of g u) (phase_of g u) (joined g.edges u) (masked (joined g.edges u) (ids (without u g.vertices)) label) g.vertices (without u g.vertices) label c.deletable.plane c.deletable.phase

@@ -1,7 +1,7 @@
 -- Graphs that single changes make.
 use Rattle.std.proofs.Common.{◌≡◌, ◌≢◌, refl, sym, ◌∙◌, ap, ap₂, ℕ, Bool, true, false, ◌&&◌, ◌||◌, eqb, ltb, List, ne_eqb}
 use Rattle.zx_model.specs.Bits.{xor, member}
-use Rattle.zx_calculus.specs.Graph.{Graph, ids, joined, in_order, without, Live, WellFormed}
+use Rattle.zx_calculus.specs.Graph.{Graph, ids, joined, in_order, without, IsVertex, WellFormed}
 use Rattle.zx_calculus.specs.Edits.{is_pair, IsToggle, IsRemoval}
 use Rattle.zx_calculus.specs.Adjacency.{adjacent_graph}
 use Rattle.zx_calculus.proofs.Ids.{by_equal, Symmetric, apart_of_member}
@@ -26,7 +26,7 @@ is_pair-absent : (vs : List ℕ) (u v p q : ℕ) → member u vs ≡ true → me
 is_pair-absent vs u v p q u_there v_there absent =
     ap₂ (λ x y. (x && eqb q v) || (y && eqb q u)) (ne_eqb p u (λ e. apart_of_member u p vs u_there absent (sym e))) (ne_eqb p v (λ e. apart_of_member v p vs v_there absent (sym e)))
 
-pub toggled_is_toggle : (g : Graph) (u v : ℕ) → WellFormed g → Live g u → Live g v → u ≢ v → IsToggle g u v (toggled g u v)
+pub toggled_is_toggle : (g : Graph) (u v : ℕ) → WellFormed g → IsVertex g u → IsVertex g v → u ≢ v → IsToggle g u v (toggled g u v)
 toggled_is_toggle g u v w u_there v_there apart =
     record { vertices = refl; edges = law; frame = record { ordered = OrderedEdges-edges_of _ _ w.vertices_rising; inputs = refl; outputs = refl } }
   where

@@ -5,7 +5,7 @@ use Rattle.zx_model.specs.Number.{Number, one, add, neg, mul, root_power}
 use Rattle.zx_model.specs.Constants.{two, i}
 use Rattle.zx_model.specs.Phase.{half_turn}
 use Rattle.zx_calculus.specs.Graph.{Graph, Plane, XY, XZ, YZ, Kind, Vertex, joined, plane_of, phase_of}
-use Rattle.zx_calculus.specs.Sum.{sum}
+use Rattle.zx_calculus.specs.Sum.{graph_sum}
 use Rattle.zx_calculus.specs.Splits.{mark_of}
 use Rattle.zx_calculus.specs.Steps.{Step, LocalComplement, Delete, Pivot, SplitInput, SplitOutput, DropLone, FuseInto, FuseTwin}
 
@@ -104,4 +104,4 @@ right_factor g (FuseTwin u v) = two
 -- the left factor of the step times the sum of g is its right factor times the sum of h
 abbrev pub IsExact : Graph → Step → Graph → Type 0
 IsExact g s h = (x y : List Bool) → length x ≡ length g.inputs → length y ≡ length g.outputs →
-    mul (left_factor g s) (sum g x y) ≡ mul (right_factor g s) (sum h x y)
+    mul (left_factor g s) (graph_sum g x y) ≡ mul (right_factor g s) (graph_sum h x y)

@@ -8,7 +8,7 @@ use Rattle.zx_model.proofs.Ring.{mul-sign, mul_left_comm, expand}
 use Rattle.zx_calculus.specs.Parity.{masked}
 use Rattle.zx_calculus.specs.Internal.Pairs.{quad}
 use Rattle.zx_calculus.specs.Graph.{Kind, Vertex, End, Graph, ids, kind_of, joined, end_vertices, without, WellFormed}
-use Rattle.zx_calculus.specs.Sum.{factor, vertex_product, end_product, end_factor, term, sum}
+use Rattle.zx_calculus.specs.Sum.{factor, vertex_product, end_product, end_factor, term, graph_sum}
 use Rattle.zx_calculus.proofs.Ids.{by_equal, removed, Distinct, Distinct-rising, Symmetric, quad_front, or-left, or-right, apart_of_member}
 use Rattle.zx_calculus.proofs.Parity.{masked_labels, quad_labels}
 use Rattle.zx_calculus.proofs.Edges.{edge_product_is}
@@ -29,7 +29,7 @@ pub length-ids : (vs : List Vertex) → length (ids vs) ≡ length vs
 length-ids [] = refl
 length-ids (v ∷ vs) = ap (λ n. suc n) (length-ids vs)
 
-pub sum_is_form : (g : Graph) (x y : List Bool) → WellFormed g → sum g x y ≡ form (joined g.edges) (at_ends g.inputs g.outputs x y) g.vertices
+pub sum_is_form : (g : Graph) (x y : List Bool) → WellFormed g → graph_sum g x y ≡ form (joined g.edges) (at_ends g.inputs g.outputs x y) g.vertices
 sum_is_form g x y w =
     ap (λ n. total (map (λ hs. term g x y (label_of (ids g.vertices) hs)) (all_labels n))) (sym (length-ids g.vertices))
     ∙ all_lists (ids g.vertices) (term g x y)

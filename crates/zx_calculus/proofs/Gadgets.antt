@@ -11,10 +11,10 @@ use Rattle.zx_model.proofs.Ring.{mul_comm, one-mul, mul_assoc, sorted}
 use Rattle.zx_model.proofs.Powers.{root_power-sum_of_phases}
 use Rattle.zx_model.proofs.SumLemmas.{sum_over_same, sum_over_scaled}
 use Rattle.zx_calculus.specs.Gadgets.{fuse_kind, IsDropLone, IsFuseInto, IsFuseTwin, is_empty, is_one_XY, first_of_list}
-use Rattle.zx_calculus.specs.Graph.{WellFormed, without, is_XY, Graph, phase_of, YZ, Kind, kind_of, ids, Vertex, joined, with_kinds, Plane, XY, plane_of, is_interior, Live, neighbours, is_YZ}
+use Rattle.zx_calculus.specs.Graph.{WellFormed, without, is_XY, Graph, phase_of, YZ, Kind, kind_of, ids, Vertex, joined, with_kinds, Plane, XY, plane_of, is_interior, IsVertex, neighbours, is_YZ}
 use Rattle.zx_calculus.specs.Edits.{KeepsEnds}
 use Rattle.zx_calculus.specs.Turns.{with_phase_added, in_plane}
-use Rattle.zx_calculus.specs.Sum.{spider, vertex_product, sum, factor_in, factor}
+use Rattle.zx_calculus.specs.Sum.{spider, vertex_product, graph_sum, factor_in, factor}
 use Rattle.zx_calculus.specs.Parity.{masked}
 use Rattle.zx_calculus.specs.Internal.Pairs.{quad}
 use Rattle.zx_calculus.specs.Counts.{even_interior, not_XY, is_even_at, odd_phases, is_odd_at, is_even_interior, is_odd_fused, is_even_fused}
@@ -56,7 +56,7 @@ fuse_twin_kept g u v h w c =
 pub gadget_at : (kind : Kind) (m : Bool) → kind.plane ≡ YZ → transform kind m ≡ mul two (spider kind.phase m)
 gadget_at kind m e = ap (λ p. transform (in_plane p kind.phase) m) e ∙ gadget kind.phase m
 
-pub drop_lone_sum : (g : Graph) (u : ℕ) (h : Graph) (x y : List Bool) → WellFormed g → WellFormed h → IsDropLone g u h → mul one (sum g x y) ≡ mul two (sum h x y)
+pub drop_lone_sum : (g : Graph) (u : ℕ) (h : Graph) (x y : List Bool) → WellFormed g → WellFormed h → IsDropLone g u h → mul one (graph_sum g x y) ≡ mul two (graph_sum h x y)
 drop_lone_sum g u h x y wg wh c =
     removal_sum g u (λ p k. k) h wg wh
     (record { there = c.there; interior = interior_of g u wg (ap is_XY c.plane); vertices = c.vertices ∙ sym (unchanged g.vertices); edges = c.edges; frame = c.frame })
@@ -90,7 +90,7 @@ fused_product v k ws label d there plane =
     ∙ mul_assoc _ _ _
     ∙ ap (mul (spider k (label v))) (sym (vertex_product_front v ws label d there))
 
-pub fuse_into_sum : (g : Graph) (u : ℕ) (h : Graph) (x y : List Bool) → WellFormed g → WellFormed h → IsFuseInto g u h → mul one (sum g x y) ≡ mul two (sum h x y)
+pub fuse_into_sum : (g : Graph) (u : ℕ) (h : Graph) (x y : List Bool) → WellFormed g → WellFormed h → IsFuseInto g u h → mul one (graph_sum g x y) ≡ mul two (graph_sum h x y)
 fuse_into_sum g u h x y wg wh c =
     removal_sum g u (fuse_kind c.into (phase_of g u)) h wg wh
     (record { there = c.there; interior = interior_of g u wg (ap is_XY c.plane); vertices = c.vertices; edges = c.edges; frame = c.frame })
@@ -161,7 +161,7 @@ module _ (g : Graph) (u v : ℕ) (h : Graph) (wg : WellFormed g) (wh : WellForme
       ∙ ap (λ is. masked (a v) is label) (sym (ids-without u ws))
       ∙ masked_same (a v) (a u) (ids others) label (λ p t. sym (c.equal_neighbours p))
 
-  sum_before : sum g x y ≡ sum_over (ids others) (λ label. mul (transform kind (parity label)) (value a with_v others label))
+  sum_before : graph_sum g x y ≡ sum_over (ids others) (λ label. mul (transform kind (parity label)) (value a with_v others label))
   sum_before =
       sum_without g v x y wg c.there_too (interior_of g v wg (ap is_XY c.plane_too))
       ∙ sum_over_same (ids ws) _ _
@@ -183,7 +183,7 @@ module _ (g : Graph) (u v : ℕ) (h : Graph) (wg : WellFormed g) (wh : WellForme
   is_removal : Removal g v (fuse_kind u gained) h
   is_removal = record { there = c.there_too; interior = interior_of g v wg (ap is_XY c.plane_too); vertices = c.vertices; edges = c.edges; frame = c.frame }
 
-  sum_after : sum h x y ≡ sum_over (ids others) (λ label. mul (transform (with_phase_added gained kind) (parity label)) (value a rest others label))
+  sum_after : graph_sum h x y ≡ sum_over (ids others) (λ label. mul (transform (with_phase_added gained kind) (parity label)) (value a rest others label))
   sum_after =
       removal_after g v (fuse_kind u gained) h wg wh is_removal x y
       ∙ ap (λ is. sum_over is (λ label. mul (vertex_product fused label) (mul (sign (quad a is label)) (rest label)))) (sym (ids-with_kinds (fuse_kind u gained) ws))
@@ -191,7 +191,7 @@ module _ (g : Graph) (u v : ℕ) (h : Graph) (wg : WellFormed g) (wh : WellForme
       ∙ ap (form a rest) front_after
       ∙ sum_out a rest (with_phase_added gained kind) u others u_interior (member-without u ws)
 
-  pub fuse_twin_sum : mul one (sum g x y) ≡ mul two (sum h x y)
+  pub fuse_twin_sum : mul one (graph_sum g x y) ≡ mul two (graph_sum h x y)
   fuse_twin_sum =
       ap (mul one) sum_before
       ∙ sum_over_scaled one two (ids others) _ _
@@ -234,7 +234,7 @@ fused_count t k u v vs d u_there v_there differ =
     balanced : (a a' b c x y z : ℕ) → a ≡ a' → a' + x ≡ b + y → c ≡ z + b → a + z + x ≡ c + y
     balanced a a' b c x y z e f g = omega arith
 
-module _ (g h : Graph) (u v : ℕ) (w : WellFormed g) (there : Live g u) (gains : Live g v) (differ : v ≢ u) (plane : plane_of g u ≡ YZ)
+module _ (g h : Graph) (u v : ℕ) (w : WellFormed g) (there : IsVertex g u) (gains : IsVertex g v) (differ : v ≢ u) (plane : plane_of g u ≡ YZ)
     (vertices : h.vertices ≡ with_kinds (fuse_kind v (phase_of g u)) (without u g.vertices)) where
   odd_fused : odd_phases h + one_if (is_odd_at g u) + one_if (is_odd_at g v) ≡ odd_phases g + one_if (is_odd_fused g u v)
   odd_fused =

@@ -9,10 +9,10 @@ use Rattle.zx_model.proofs.Ring.{expand, sorted, mul-sign}
 use Rattle.zx_model.proofs.SumLemmas.{sum_over_same, labelled-same, sum_over_scaled}
 use Rattle.zx_model.proofs.Odd.{is_odd-quarter_minus}
 use Rattle.zx_model.proofs.BitLemmas.{expand as expand_bits}
-use Rattle.zx_calculus.specs.Graph.{YZ, Plane, XY, XZ, end_vertices, WellFormed, joined, Graph, Kind, kind_of, Live, Interior, ids, Vertex, without, plane_of, with_kinds, phase_of, is_XY, is_YZ, is_interior}
+use Rattle.zx_calculus.specs.Graph.{YZ, Plane, XY, XZ, end_vertices, WellFormed, joined, Graph, Kind, kind_of, IsVertex, Interior, ids, Vertex, without, plane_of, with_kinds, phase_of, is_XY, is_YZ, is_interior}
 use Rattle.zx_calculus.specs.Turns.{pivoted_in, half_turned, pivoted}
 use Rattle.zx_calculus.specs.Pivots.{pivot_kind, IsPivot, pivot_adjacent}
-use Rattle.zx_calculus.specs.Sum.{factor, sum, vertex_product}
+use Rattle.zx_calculus.specs.Sum.{factor, graph_sum, vertex_product}
 use Rattle.zx_calculus.specs.Parity.{masked}
 use Rattle.zx_calculus.specs.Internal.Pairs.{quad}
 use Rattle.zx_calculus.proofs.Factors.{product_of, half_cost, pivot_right_in, pivot_right}
@@ -70,7 +70,7 @@ pub move_inside : (t p q e : Number) → mul t (mul p (mul q e)) ≡ mul p (mul 
 move_inside t p q e = simp sorted
 
 -- two adjacent interior vertices summed out
-module _ (g : Graph) (u v : ℕ) (w : WellFormed g) (there : Live g u) (there_too : Live g v) (interior : Interior g u) (interior_too : Interior g v) (adjacent : joined g.edges u v ≡ true) (x y : List Bool) where
+module _ (g : Graph) (u v : ℕ) (w : WellFormed g) (there : IsVertex g u) (there_too : IsVertex g v) (interior : Interior g u) (interior_too : Interior g v) (adjacent : joined g.edges u v ≡ true) (x y : List Bool) where
   abbrev a : ℕ → ℕ → Bool
   a = joined g.edges
 
@@ -101,7 +101,7 @@ module _ (g : Graph) (u v : ℕ) (w : WellFormed g) (there : Live g u) (there_to
       ∙ ap (xor d) (masked-labelled (a u) v (ids ws) label d (member-without v wu)))
       (at_ends-ignores g.inputs g.outputs x y v interior_too.no_input interior_too.no_output label d)
 
-  pub pair_out : sum g x y ≡ sum_over (ids (without v (without u g.vertices)))
+  pub pair_out : graph_sum g x y ≡ sum_over (ids (without v (without u g.vertices)))
       (λ label. mul (pair_sum (kind_of g.vertices u) (kind_of g.vertices v) (masked (joined g.edges u) (ids (without v (without u g.vertices))) label) (masked (joined g.edges v) (ids (without v (without u g.vertices))) label))
       (value (joined g.edges) (at_ends g.inputs g.outputs x y) (without v (without u g.vertices)) label))
   pair_out =
@@ -219,9 +219,9 @@ module _ (g : Graph) (u v : ℕ) (h : Graph) (wg : WellFormed g) (wh : WellForme
     summand k l is vs label =
         mul (pair_sum k l (masked (joined h.edges u) is label) (masked (joined h.edges v) is label)) (mul (vertex_product vs label) (mul (sign (quad (joined h.edges) is label)) (at_end label)))
 
-    sum_after : sum h x y ≡ sum_over (ids others) (summand (pivoted ku) (pivoted kv) (ids others) turned)
+    sum_after : graph_sum h x y ≡ sum_over (ids others) (summand (pivoted ku) (pivoted kv) (ids others) turned)
     sum_after =
-        ap (λ k. sum k x y) same_shape
+        ap (λ k. graph_sum k x y) same_shape
         ∙ pair_out (with_parts g changed h.edges) u v (subst WellFormed same_shape wh)
         (ap (member u) (ids-with_kinds kinds g.vertices) ∙ c.there) (ap (member v) (ids-with_kinds kinds g.vertices) ∙ c.there_too)
         (record { no_input = c.interior.no_input; no_output = c.interior.no_output }) (record { no_input = c.interior_too.no_input; no_output = c.interior_too.no_output })
@@ -273,7 +273,7 @@ module _ (g : Graph) (u v : ℕ) (h : Graph) (wg : WellFormed g) (wh : WellForme
     not_common p (inl e) = ap (λ w. near_u w && near_v w) e ∙ ap (λ b. b && near_v u) (no_loop g u wg)
     not_common p (inr e) = ap (λ w. near_u w && near_v w) e ∙ ap (λ b. near_u v && b) (no_loop g v wg) ∙ and-false (near_u v)
 
-    pub pivot_sum : mul two (sum g x y) ≡ mul (pivot_right g u v) (sum h x y)
+    pub pivot_sum : mul two (graph_sum g x y) ≡ mul (pivot_right g u v) (graph_sum h x y)
     pivot_sum =
         ap (mul two) (pair_out g u v wg c.there c.there_too c.interior c.interior_too c.adjacent x y)
         ∙ sum_over_scaled two (mul own cost) (ids others) _ _ at_label

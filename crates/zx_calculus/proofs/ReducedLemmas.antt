@@ -4,7 +4,7 @@ use Rattle.std.specs.List.{list_all}
 use Rattle.zx_model.specs.Phase.{is_odd, IsQuarterTurn}
 use Rattle.zx_model.specs.Bits.{member, one_if}
 use Rattle.zx_model.proofs.Phases.{even_phases}
-use Rattle.zx_calculus.specs.Graph.{Plane, XY, XZ, YZ, Vertex, End, Graph, ids, end_vertices, is_XY, kind_of, plane_of, phase_of, joined, neighbours, Live, Interior, WellFormed, is_interior}
+use Rattle.zx_calculus.specs.Graph.{Plane, XY, XZ, YZ, Vertex, End, Graph, ids, end_vertices, is_XY, kind_of, plane_of, phase_of, joined, neighbours, IsVertex, Interior, WellFormed, is_interior}
 use Rattle.zx_calculus.specs.Counts.{even_interior, odd_phases, not_XY, XY_without_output}
 use Rattle.zx_calculus.specs.Reduced.{IsReduced}
 use Rattle.zx_calculus.specs.Moves.{IsHalfSpider, IsStuck, HasInnerNeighbours}
@@ -98,14 +98,14 @@ reduced_few g w r =
     few : (a b c d : ℕ) → a ≤ b + c → b ≤ d → d ≡ length g.inputs → a ≤ length g.inputs + c
     few a b c d e f h = omega arith
 
-    by_ends : (p : ℕ) → Live g p → (xy i o : Bool) → is_XY (plane_of g p) ≡ xy → member p (end_vertices g.inputs) ≡ i → member p (end_vertices g.outputs) ≡ o
+    by_ends : (p : ℕ) → IsVertex g p → (xy i o : Bool) → is_XY (plane_of g p) ≡ xy → member p (end_vertices g.inputs) ≡ i → member p (end_vertices g.outputs) ≡ o
         → one_if (xy && not o) + one_if (not xy) ≤ one_if i + one_if (is_odd (phase_of g p))
     by_ends p m true i true x y z = omega arith
     by_ends p m true true false x y z = omega arith
     by_ends p m true false false x y z = at_least false _ (r.odd p m (record { no_input = y; no_output = z }))
     by_ends p m false i o x y z = at_least i _ (r.odd p m (interior_of g p w x))
 
-    each : (p : ℕ) → Live g p → one_if (is_XY (plane_of g p) && not (member p (end_vertices g.outputs))) + one_if (not (is_XY (plane_of g p)))
+    each : (p : ℕ) → IsVertex g p → one_if (is_XY (plane_of g p) && not (member p (end_vertices g.outputs))) + one_if (not (is_XY (plane_of g p)))
         ≤ one_if (member p (end_vertices g.inputs)) + one_if (is_odd (phase_of g p))
     each p m = by_ends p m (is_XY (plane_of g p)) (member p (end_vertices g.inputs)) (member p (end_vertices g.outputs)) refl refl refl
 
@@ -137,7 +137,7 @@ module _ (g : Graph) (w : WellFormed g) (stuck : IsStuck g) (near : HasInnerNeig
       (λ some. let v = some_fails (λ p. not (is_interior g p)) (neighbours g u) some in
       stuck.no_inner_pivot u v.0 (record { spider = spider; adjacent = neighbour g w u v.0 ∙ v.1; interior = interior_from g v.0 (not-false (is_interior g v.0) v.2) }))
 
-  no_even : (u : ℕ) → Live g u → Interior g u → is_odd (phase_of g u) ≡ false → ⊥
+  no_even : (u : ℕ) → IsVertex g u → Interior g u → is_odd (phase_of g u) ≡ false → ⊥
   no_even u there i even =
       by_plane (plane_of g u)
       (λ e. elim (even_phases (phase_of g u) (phase-kind_of u g.vertices w.phases_below_a_turn) even) [
@@ -173,7 +173,7 @@ quarter_even k (inl e) = ap is_odd e
 quarter_even k (inr e) = ap is_odd e
 
 module _ (g : Graph) (w : WellFormed g) (r : IsReduced g) where
-  not_even : (u : ℕ) → Live g u → Interior g u → is_odd (phase_of g u) ≡ false → ⊥
+  not_even : (u : ℕ) → IsVertex g u → Interior g u → is_odd (phase_of g u) ≡ false → ⊥
   not_even u there i even = true≢false (sym (r.odd u there i) ∙ even)
 
   gone : (u : ℕ) → plane_of g u ≢ XY → Interior g u

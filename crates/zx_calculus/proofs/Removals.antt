@@ -4,11 +4,11 @@ use Rattle.zx_model.specs.Number.{Number, mul, one, sign}
 use Rattle.zx_model.specs.Sums.{sum_over}
 use Rattle.zx_model.proofs.Ring.{sorted}
 use Rattle.zx_model.proofs.SumLemmas.{sum_over_same, sum_over_scaled}
-use Rattle.zx_calculus.specs.Graph.{Kind, joined, without, with_kinds, Live, Graph, Interior, kind_of, WellFormed, ids, Vertex}
+use Rattle.zx_calculus.specs.Graph.{Kind, joined, without, with_kinds, IsVertex, Graph, Interior, kind_of, WellFormed, ids, Vertex}
 use Rattle.zx_calculus.specs.Edits.{KeepsEnds}
 use Rattle.zx_calculus.specs.Parity.{masked}
 use Rattle.zx_calculus.specs.Internal.Pairs.{quad}
-use Rattle.zx_calculus.specs.Sum.{sum, vertex_product}
+use Rattle.zx_calculus.specs.Sum.{graph_sum, vertex_product}
 use Rattle.zx_calculus.proofs.Vertices.{ids-with_kinds}
 use Rattle.zx_calculus.proofs.Ids.{apart_of_member}
 use Rattle.zx_calculus.proofs.Forms.{at_ends, sum_is_form, transform}
@@ -27,7 +27,7 @@ scale_out r t p p' q e here = one_way t p q e ∙ ap (λ z. mul z (mul q e)) her
 
 -- u went, and the kinds of the others changed
 pub record Removal (g : Graph) (u : ℕ) (change : ℕ → Kind → Kind) (h : Graph) : Type 0 where
-  pub there : Live g u
+  pub there : IsVertex g u
   pub interior : Interior g u
   pub vertices : h.vertices ≡ with_kinds change (without u g.vertices)
   pub edges : (p q : ℕ) → p ≢ u → q ≢ u → joined h.edges p q ≡ joined g.edges p q
@@ -43,9 +43,9 @@ module _ (g : Graph) (u : ℕ) (change : ℕ → Kind → Kind) (h : Graph) (wg 
   same_shape : h ≡ with_parts g changed h.edges
   same_shape = parts_are g h changed c.vertices c.frame
 
-  pub removal_after : (x y : List Bool) → sum h x y ≡ sum_over (ids ws) (λ label. mul (vertex_product changed label) (mul (sign (quad (joined g.edges) (ids ws) label)) (at_ends g.inputs g.outputs x y label)))
+  pub removal_after : (x y : List Bool) → graph_sum h x y ≡ sum_over (ids ws) (λ label. mul (vertex_product changed label) (mul (sign (quad (joined g.edges) (ids ws) label)) (at_ends g.inputs g.outputs x y label)))
   removal_after x y =
-      ap (λ k. sum k x y) same_shape
+      ap (λ k. graph_sum k x y) same_shape
       ∙ sum_is_form (with_parts g changed h.edges) x y (subst WellFormed same_shape wh)
       ∙ ap (λ is. sum_over is (λ label. mul (vertex_product changed label) (mul (sign (quad (joined h.edges) is label)) (at_ends g.inputs g.outputs x y label)))) (ids-with_kinds change ws)
       ∙ sum_over_same (ids ws) _ _
@@ -56,7 +56,7 @@ module _ (g : Graph) (u : ℕ) (change : ℕ → Kind → Kind) (h : Graph) (wg 
   pub removal_sum : (right : Number) (x y : List Bool) →
       ((label : ℕ → Bool) → mul (transform (kind_of g.vertices u) (masked (joined g.edges u) (ids (without u g.vertices)) label)) (vertex_product (without u g.vertices) label)
       ≡ mul right (vertex_product (with_kinds change (without u g.vertices)) label)) →
-      mul one (sum g x y) ≡ mul right (sum h x y)
+      mul one (graph_sum g x y) ≡ mul right (graph_sum h x y)
   removal_sum right x y law =
       ap (mul one) (sum_without g u x y wg c.there c.interior)
       ∙ sum_over_scaled one right (ids ws) _ _ (λ label. scale_out right _ _ _ _ _ (law label))

@@ -10,8 +10,8 @@ use Rattle.zx_model.proofs.Ring.{expand, sorted, mul_comm, mul_left_comm}
 use Rattle.zx_model.proofs.SumLemmas.{labelled-same, labelled-other, sum_over_same, sum_over_scaled}
 use Rattle.zx_model.proofs.Powers.{root_power-zero}
 use Rattle.zx_calculus.specs.Splits.{move_end, spider_of_phase_zero, IsSplitInput, IsSplitOutput, mark_of, split_vertices, split_input_graph, split_output_graph}
-use Rattle.zx_calculus.specs.Graph.{end_vertices, End, different, in_order, kind_of, ids, OrderedEnds, insert_vertex, is_XY, Vertex, WellFormed, Graph, joined, Edge, XY, is_interior, Live}
-use Rattle.zx_calculus.specs.Sum.{end_factor, end_product, edge_product, sum, term, vertex_product}
+use Rattle.zx_calculus.specs.Graph.{end_vertices, End, different, in_order, kind_of, ids, OrderedEnds, insert_vertex, is_XY, Vertex, WellFormed, Graph, joined, Edge, XY, is_interior, IsVertex}
+use Rattle.zx_calculus.specs.Sum.{end_factor, end_product, edge_product, graph_sum, term, vertex_product}
 use Rattle.zx_calculus.specs.Internal.Pairs.{quad}
 use Rattle.zx_calculus.specs.Edits.{is_pair}
 use Rattle.zx_calculus.specs.Turns.{in_plane}
@@ -122,7 +122,7 @@ pub split_mirrored : (g : Graph) (b new : ℕ) (h : Graph) → IsSplitInput (mir
 split_mirrored g b new h c =
     record { fresh = c.fresh; has_output = c.has_input; vertices = c.vertices; ordered = c.ordered; edges = c.edges; inputs = c.outputs; outputs = c.inputs }
 
-mirrored_sum : (g : Graph) (x y : List Bool) → sum (mirrored g) y x ≡ sum g x y
+mirrored_sum : (g : Graph) (x y : List Bool) → graph_sum (mirrored g) y x ≡ graph_sum g x y
 mirrored_sum g x y = λ i. total (map (λ hs. mirrored_term (label_of (ids g.vertices) hs) i) (all_labels (length g.vertices)))
   where
     mirrored_term : (label : ℕ → Bool) → term (mirrored g) y x label ≡ term g x y label
@@ -263,7 +263,7 @@ module _ (g : Graph) (b new : ℕ) (es : List Edge) (inputs outputs : List End) 
   plain_step : (p q c s d : Number) → mul p (mul q (add (mul one c) (mul (mul one s) d))) ≡ mul p (mul q (add c (mul s d)))
   plain_step p q c s d = simp expand
 
-  pub split_after : sum after x y ≡ sum_over (ids g.vertices)
+  pub split_after : graph_sum after x y ≡ sum_over (ids g.vertices)
       (λ label. mul (vertex_product g.vertices label) (mul (sign (quad (joined g.edges) (ids g.vertices) label))
       (add (rest (labelled label new false)) (mul (sign (label b)) (rest (labelled label new true))))))
   split_after =
@@ -286,7 +286,7 @@ with_cost : (c p q a o : Number) → mul c (mul p (mul q (mul a o))) ≡ mul one
 with_cost c p q a o = simp sorted
 
 pub split_input_sum : (g : Graph) (b new : ℕ) (h : Graph) (x y : List Bool) → WellFormed g → WellFormed h → IsSplitInput g b new h → length x ≡ length g.inputs →
-    mul (split_left (mark_of g.inputs b)) (sum g x y) ≡ mul one (sum h x y)
+    mul (split_left (mark_of g.inputs b)) (graph_sum g x y) ≡ mul one (graph_sum h x y)
 split_input_sum g b new h x y wg wh c long =
     ap (mul (split_left (mark_of g.inputs b))) (sum_is_form g x y wg)
     ∙ sum_over_scaled (split_left (mark_of g.inputs b)) one (ids g.vertices) _ _
@@ -296,7 +296,7 @@ split_input_sum g b new h x y wg wh c long =
     ∙ sym (factor_first _ _ _ _)
     ∙ ap₂ (λ o p. add (mul (end_product (move_end b new g.inputs) x (labelled label new false)) o) (mul (sign (label b)) (mul (end_product (move_end b new g.inputs) x (labelled label new true)) p)))
     (sym (end_product-labelled new g.outputs y label false fresh_out)) (sym (end_product-labelled new g.outputs y label true fresh_out))))
-    ∙ ap (mul one) (sym (split_after g b new h.edges (move_end b new g.inputs) g.outputs wg (subst WellFormed shape wh) c.fresh there c.edges x y) ∙ sym (ap (λ k. sum k x y) shape))
+    ∙ ap (mul one) (sym (split_after g b new h.edges (move_end b new g.inputs) g.outputs wg (subst WellFormed shape wh) c.fresh there c.edges x y) ∙ sym (ap (λ k. graph_sum k x y) shape))
   where
     shape : h ≡ record { vertices = insert_vertex (spider_of_phase_zero new) g.vertices; edges = h.edges; inputs = move_end b new g.inputs; outputs = g.outputs }
     shape = λ j. record { vertices = c.vertices j; edges = h.edges; inputs = c.inputs j; outputs = c.outputs j }
@@ -314,7 +314,7 @@ split_input_sum g b new h x y wg wh c long =
     fresh_out = absent_from (ids g.vertices) (end_vertices g.outputs) new wg.outputs.there c.fresh
 
 pub split_output_sum : (g : Graph) (b new : ℕ) (h : Graph) (x y : List Bool) → WellFormed g → WellFormed h → IsSplitOutput g b new h → length y ≡ length g.outputs →
-    mul (split_left (mark_of g.outputs b)) (sum g x y) ≡ mul one (sum h x y)
+    mul (split_left (mark_of g.outputs b)) (graph_sum g x y) ≡ mul one (graph_sum h x y)
 split_output_sum g b new h x y wg wh c long =
     ap (mul (split_left (mark_of g.outputs b))) (sym (mirrored_sum g x y))
     ∙ split_input_sum (mirrored g) b new (mirrored h) y x (mirrored_formed g wg) (mirrored_formed h wh) (mirrored_split g b new h c) long
@@ -352,7 +352,7 @@ module _ (g h : Graph) (new : ℕ) (vertices : h.vertices ≡ insert_vertex (spi
   planes-split = none_more _ _ _ _ (ap (count plane_test) vertices ∙ count-insert plane_test (spider_of_phase_zero new) g.vertices) refl refl
 
 module _ (g : Graph) (b new : ℕ) (h : Graph) (w : WellFormed g) (c : IsSplitInput g b new h) where
-  input_there : Live g b
+  input_there : IsVertex g b
   input_there = end_there g w b g.inputs w.inputs.there c.has_input
 
   input_not_new : b ≢ new

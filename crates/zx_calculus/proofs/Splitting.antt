@@ -5,8 +5,8 @@ use Rattle.zx_model.specs.Bits.{member}
 use Rattle.zx_model.specs.Number.{mul}
 use Rattle.zx_model.specs.Sums.{sum_over}
 use Rattle.zx_calculus.specs.Parity.{masked}
-use Rattle.zx_calculus.specs.Graph.{Plane, XY, XZ, YZ, Vertex, Edge, Graph, ids, kind_of, plane_of, is_XY, is_YZ, joins, joined, end_vertices, without, WellFormed, Live, Interior}
-use Rattle.zx_calculus.specs.Sum.{sum}
+use Rattle.zx_calculus.specs.Graph.{Plane, XY, XZ, YZ, Vertex, Edge, Graph, ids, kind_of, plane_of, is_XY, is_YZ, joins, joined, end_vertices, without, WellFormed, IsVertex, Interior}
+use Rattle.zx_calculus.specs.Sum.{graph_sum}
 use Rattle.zx_calculus.proofs.Ids.{by_test, by_equal, Distinct, Distinct-rising, Distinct-removed, member-removed, and-left, and-right}
 use Rattle.zx_calculus.proofs.Edges.{joined_comm, joins-true}
 use Rattle.zx_calculus.proofs.Forms.{value, form, at_ends, at_ends-ignores, sum_is_form, form_front, sum_out, transform, ids-without, at_front}
@@ -34,12 +34,12 @@ joined-self (e ∷ es) p h =
 pub no_loop : (g : Graph) (p : ℕ) → WellFormed g → joined g.edges p p ≡ false
 no_loop g p w = joined-self g.edges p w.edges.lower_first
 
-pub form_without : (g : Graph) (u : ℕ) (x y : List Bool) → WellFormed g → Live g u → sum g x y ≡ form (joined g.edges) (at_ends g.inputs g.outputs x y) (at_front u g.vertices)
+pub form_without : (g : Graph) (u : ℕ) (x y : List Bool) → WellFormed g → IsVertex g u → graph_sum g x y ≡ form (joined g.edges) (at_ends g.inputs g.outputs x y) (at_front u g.vertices)
 form_without g u x y w there =
     sum_is_form g x y w ∙ form_front (joined g.edges) (at_ends g.inputs g.outputs x y) u g.vertices (joined_comm g.edges) (distinct g w) there
 
-pub sum_without : (g : Graph) (u : ℕ) (x y : List Bool) → WellFormed g → Live g u → Interior g u →
-    sum g x y ≡ sum_over (ids (without u g.vertices))
+pub sum_without : (g : Graph) (u : ℕ) (x y : List Bool) → WellFormed g → IsVertex g u → Interior g u →
+    graph_sum g x y ≡ sum_over (ids (without u g.vertices))
     (λ label. mul (transform (kind_of g.vertices u) (masked (joined g.edges u) (ids (without u g.vertices)) label)) (value (joined g.edges) (at_ends g.inputs g.outputs x y) (without u g.vertices) label))
 sum_without g u x y w there interior =
     form_without g u x y w there

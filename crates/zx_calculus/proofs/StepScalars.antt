@@ -15,7 +15,7 @@ use Rattle.zx_model.proofs.Factors.{IsScalar, is_one, is_turn, is_product, is_re
 use Rattle.zx_calculus.specs.Graph.{Graph, Plane, XY, XZ, YZ, Kind, Vertex, Distinct, WellFormed, ids, joined, kind_of, neighbours, plane_of, phase_of}
 use Rattle.zx_calculus.proofs.Ids.{eqb-self, by_test, and-left, member-filter, Distinct-rising}
 use Rattle.zx_calculus.proofs.Booleans.{or-true}
-use Rattle.zx_calculus.specs.Sum.{sum}
+use Rattle.zx_calculus.specs.Sum.{graph_sum}
 use Rattle.zx_calculus.specs.Scalars.{root_of_two_to, turn_by, quarter_power, quarter_power_in, half_power, half_power_in, sum_of_powers, quarter_powers, half_powers}
 use Rattle.zx_calculus.specs.Complements.{complement_scalar_in}
 use Rattle.zx_calculus.specs.Deletions.{delete_scalar_in}
@@ -133,11 +133,11 @@ split-scaled : (n m : ℕ) (f g : Matrix) (hadamard : Bool) → ((x y : List Boo
 split-scaled n m f g true e = after-scaled n m f g one one_scalar is_one e
 split-scaled n m f g false e = half-scaled n m f g one one_scalar is_one e
 
-pub step_scaled : (g : Graph) (s : Step) (h : Graph) → WellFormed g → IsExact g s h → IsScaled (length g.inputs) (length g.outputs) (sum g) (step_scalar g s) (sum h)
+pub step_scaled : (g : Graph) (s : Step) (h : Graph) → WellFormed g → IsExact g s h → IsScaled (length g.inputs) (length g.outputs) (graph_sum g) (step_scalar g s) (graph_sum h)
 step_scaled g (LocalComplement u) h w e =
-    complement-scaled _ _ (sum g) (sum h) (plane_of g u) (phase_of g u) (quarter_powers g (neighbours g u)) _ (product_is (joined g.edges u) quarter_cost quarter_power g.vertices (Distinct-rising _ w.vertices_rising) (λ k. quarter_in k.plane k.phase)) e
+    complement-scaled _ _ (graph_sum g) (graph_sum h) (plane_of g u) (phase_of g u) (quarter_powers g (neighbours g u)) _ (product_is (joined g.edges u) quarter_cost quarter_power g.vertices (Distinct-rising _ w.vertices_rising) (λ k. quarter_in k.plane k.phase)) e
 step_scaled g (Delete u) h w e =
-    delete-scaled _ _ (sum g) (sum h) (eqb (phase_of g u) half_turn) (plane_of g u) (half_powers g (neighbours g u)) _ (product_is (joined g.edges u) half_cost half_power g.vertices (Distinct-rising _ w.vertices_rising) (λ k. half_in k.plane k.phase)) e
+    delete-scaled _ _ (graph_sum g) (graph_sum h) (eqb (phase_of g u) half_turn) (plane_of g u) (half_powers g (neighbours g u)) _ (product_is (joined g.edges u) half_cost half_power g.vertices (Distinct-rising _ w.vertices_rising) (λ k. half_in k.plane k.phase)) e
 step_scaled g (Pivot u v) h w e =
     let near : ℕ → Bool = λ p. joined g.edges u p && joined g.edges v p in
     let own_u : Scalar = pivot_scalar_in (plane_of g u) (phase_of g u) in
@@ -145,12 +145,12 @@ step_scaled g (Pivot u v) h w e =
     let turns : Scalar = turn_by (half_powers g (common_neighbours g u v)) in
     let common : IsScalar (product_of near half_cost g.vertices) turns =
     subst (λ ps. IsScalar (product_of near half_cost g.vertices) (turn_by (half_powers g ps))) (filter_twice (joined g.edges u) (joined g.edges v) (ids g.vertices)) (product_is near half_cost half_power g.vertices (Distinct-rising _ w.vertices_rising) (λ k. half_in k.plane k.phase)) in
-    half-scaled _ _ (sum g) (sum h) (pivot_right g u v) (product_of_scalars (product_of_scalars own_u own_v) turns) (is_product _ _ (product_of_scalars own_u own_v) turns (is_product _ _ own_u own_v (pivot_own-is (plane_of g u) (phase_of g u)) (pivot_own-is (plane_of g v) (phase_of g v))) common) e
-step_scaled g (SplitInput b) h w e = split-scaled _ _ (sum g) (sum h) (mark_of g.inputs b) e
-step_scaled g (SplitOutput b) h w e = split-scaled _ _ (sum g) (sum h) (mark_of g.outputs b) e
-step_scaled g (DropLone u) h w e = after-scaled _ _ (sum g) (sum h) two (root_of_two_to (pos 2)) two_is e
-step_scaled g (FuseInto u) h w e = after-scaled _ _ (sum g) (sum h) two (root_of_two_to (pos 2)) two_is e
-step_scaled g (FuseTwin u v) h w e = after-scaled _ _ (sum g) (sum h) two (root_of_two_to (pos 2)) two_is e
+    half-scaled _ _ (graph_sum g) (graph_sum h) (pivot_right g u v) (product_of_scalars (product_of_scalars own_u own_v) turns) (is_product _ _ (product_of_scalars own_u own_v) turns (is_product _ _ own_u own_v (pivot_own-is (plane_of g u) (phase_of g u)) (pivot_own-is (plane_of g v) (phase_of g v))) common) e
+step_scaled g (SplitInput b) h w e = split-scaled _ _ (graph_sum g) (graph_sum h) (mark_of g.inputs b) e
+step_scaled g (SplitOutput b) h w e = split-scaled _ _ (graph_sum g) (graph_sum h) (mark_of g.outputs b) e
+step_scaled g (DropLone u) h w e = after-scaled _ _ (graph_sum g) (graph_sum h) two (root_of_two_to (pos 2)) two_is e
+step_scaled g (FuseInto u) h w e = after-scaled _ _ (graph_sum g) (graph_sum h) two (root_of_two_to (pos 2)) two_is e
+step_scaled g (FuseTwin u v) h w e = after-scaled _ _ (graph_sum g) (graph_sum h) two (root_of_two_to (pos 2)) two_is e
 
 -- ---- how large they are
 own_complement-within : (plane : Plane) (k : ℕ) → IsWithin 2 (complement_scalar_in plane k)

@@ -11,7 +11,7 @@ use Rattle.zx_model.proofs.ProportionalLemmas.{proportional_refl, proportional_t
 use Rattle.zx_model.proofs.Odd.{one_if-odd_sum}
 use Rattle.zx_calculus.specs.Steps.{FuseInto, Pivot, FuseTwin, SplitOutput, DropLone, Delete, LocalComplement, IsStep, SplitInput, Step, IsRun, allowed, after}
 use Rattle.zx_calculus.specs.Graph.{WellFormed, Graph, End, phase_of, joined, ids, is_XY, is_YZ, with_kinds, without}
-use Rattle.zx_calculus.specs.Sum.{sum}
+use Rattle.zx_calculus.specs.Sum.{graph_sum}
 use Rattle.zx_calculus.specs.Splits.{split_vertices, split_edges}
 use Rattle.zx_calculus.specs.StepScalars.{IsSumTimes, step_scalar}
 use Rattle.zx_calculus.specs.Counts.{is_odd_fused, odd_phases, is_odd_at}
@@ -46,7 +46,7 @@ pub run_kept : (g : Graph) (steps : List Step) (h : Graph) → WellFormed g → 
 run_kept g [] h w r = subst WellFormed r w
 run_kept g (s ∷ steps) h w r = run_kept r.0 steps h (step_kept g s r.0 w r.1) r.2
 
-pub step_sum : (g : Graph) (s : Step) (h : Graph) (x y : List Bool) → WellFormed g → IsStep g s h → length x ≡ length g.inputs → length y ≡ length g.outputs → mul (left_factor g s) (sum g x y) ≡ mul (right_factor g s) (sum h x y)
+pub step_sum : (g : Graph) (s : Step) (h : Graph) (x y : List Bool) → WellFormed g → IsStep g s h → length x ≡ length g.inputs → length y ≡ length g.outputs → mul (left_factor g s) (graph_sum g x y) ≡ mul (right_factor g s) (graph_sum h x y)
 step_sum g (LocalComplement u) h x y w c m n = complement_sum g u h w (step_kept g (LocalComplement u) h w c) c x y
 step_sum g (Delete u) h x y w c m n = delete_sum g u h x y w (step_kept g (Delete u) h w c) c
 step_sum g (Pivot u v) h x y w c m n = pivot_sum g u v h w (step_kept g (Pivot u v) h w c) c x y
@@ -60,9 +60,9 @@ step_sum g (FuseTwin u v) h x y w c m n = fuse_twin_sum g u v h w (step_kept g (
 pub step_sum_times : (g : Graph) (s : Step) (h : Graph) → WellFormed g → IsStep g s h → IsSumTimes g (step_scalar g s) h
 step_sum_times g s h w c = step_scaled g s h w (λ x y. step_sum g s h x y w c)
 
-pub step_proportional : (g : Graph) (s : Step) (h : Graph) → WellFormed g → IsStep g s h → Proportional (length g.inputs) (length g.outputs) (sum g) (sum h)
+pub step_proportional : (g : Graph) (s : Step) (h : Graph) → WellFormed g → IsStep g s h → Proportional (length g.inputs) (length g.outputs) (graph_sum g) (graph_sum h)
 step_proportional g s h w c =
-    scaled_proportional (length g.inputs) (length g.outputs) (sum g) (sum h) (step_scalar g s) (step_sum_times g s h w c)
+    scaled_proportional (length g.inputs) (length g.outputs) (graph_sum g) (graph_sum h) (step_scalar g s) (step_sum_times g s h w c)
 
 -- a step keeps the number of ends
 pub inputs_kept : (g : Graph) (s : Step) (h : Graph) → IsStep g s h → length h.inputs ≡ length g.inputs
@@ -85,10 +85,10 @@ outputs_kept g (DropLone u) h c = ap length c.frame.outputs
 outputs_kept g (FuseInto u) h c = ap length c.frame.outputs
 outputs_kept g (FuseTwin u v) h c = ap length c.frame.outputs
 
-pub run_proportional : (g : Graph) (steps : List Step) (h : Graph) → WellFormed g → IsRun g steps h → Proportional (length g.inputs) (length g.outputs) (sum g) (sum h)
-run_proportional g [] h w r = subst (λ k. Proportional (length g.inputs) (length g.outputs) (sum g) (sum k)) r (proportional_refl (length g.inputs) (length g.outputs) (sum g))
+pub run_proportional : (g : Graph) (steps : List Step) (h : Graph) → WellFormed g → IsRun g steps h → Proportional (length g.inputs) (length g.outputs) (graph_sum g) (graph_sum h)
+run_proportional g [] h w r = subst (λ k. Proportional (length g.inputs) (length g.outputs) (graph_sum g) (graph_sum k)) r (proportional_refl (length g.inputs) (length g.outputs) (graph_sum g))
 run_proportional g (s ∷ steps) h w r =
-    proportional_trans (length g.inputs) (length g.outputs) (sum g) (sum r.0) (sum h) (step_proportional g s r.0 w r.1)
+    proportional_trans (length g.inputs) (length g.outputs) (graph_sum g) (graph_sum r.0) (graph_sum h) (step_proportional g s r.0 w r.1)
     (rw (← (inputs_kept g s r.0 r.1), ← (outputs_kept g s r.0 r.1)) (run_proportional r.0 steps h (step_kept g s r.0 w r.1) r.2))
 
 pub run_inputs_kept : (g : Graph) (steps : List Step) (h : Graph) → IsRun g steps h → length h.inputs ≡ length g.inputs
@@ -191,7 +191,7 @@ run_result g (s ∷ steps) h k w r q =
     run_result r.0 steps h k (step_kept g s r.0 w r.1) r.2
     (subst (λ l. IsRun l steps k) (step_result g s q.0 w q.1 ∙ sym (step_result g s r.0 w r.1)) q.2)
 
-pub fuse_twin_sum_comm : (g : Graph) (u v : ℕ) (h k : Graph) (x y : List Bool) → WellFormed g → IsFuseTwin g u v h → IsFuseTwin g v u k → length x ≡ length g.inputs → length y ≡ length g.outputs → sum h x y ≡ sum k x y
+pub fuse_twin_sum_comm : (g : Graph) (u v : ℕ) (h k : Graph) (x y : List Bool) → WellFormed g → IsFuseTwin g u v h → IsFuseTwin g v u k → length x ≡ length g.inputs → length y ≡ length g.outputs → graph_sum h x y ≡ graph_sum k x y
 fuse_twin_sum_comm g u v h k x y w c d m n =
-    mul_left_cancel two (sum h x y) (sum k x y) two_nonzero
+    mul_left_cancel two (graph_sum h x y) (graph_sum k x y) two_nonzero
     (sym (step_sum g (FuseTwin u v) h x y w c m n) ∙ step_sum g (FuseTwin v u) k x y w d m n)

@@ -1,7 +1,7 @@
 -- Neighbours, and what toggled edges leave of them.
 use Rattle.std.proofs.Common.{◌≡◌, refl, sym, ◌∙◌, ap, ap₂, ℕ, Bool, true, false, ◌&&◌, List, filter, true≢false}
 use Rattle.zx_model.specs.Bits.{xor, member}
-use Rattle.zx_calculus.specs.Graph.{Vertex, Graph, ids, joined, neighbours, WellFormed, Live, Distinct}
+use Rattle.zx_calculus.specs.Graph.{Vertex, Graph, ids, joined, neighbours, WellFormed, IsVertex, Distinct}
 use Rattle.zx_calculus.proofs.Booleans.{xor-false}
 use Rattle.zx_calculus.proofs.Ids.{by_test, by_equal, member-filter, Distinct-rising}
 use Rattle.zx_calculus.proofs.Edges.{joined_comm}
@@ -52,5 +52,5 @@ row_stays g h u wg wh c =
     (λ p. ap (λ b. b && member p (neighbours g u)) (not_own_neighbour g u wg))
 
 -- what was a vertex still is one
-pub toggled_live : (g h : Graph) (picked : ℕ → ℕ → Bool) (p : ℕ) → IsToggled g picked h → Live g p → Live h p
+pub toggled_live : (g h : Graph) (picked : ℕ → ℕ → Bool) (p : ℕ) → IsToggled g picked h → IsVertex g p → IsVertex h p
 toggled_live g h picked p c there = ap (λ vs. member p (ids vs)) c.vertices ∙ there

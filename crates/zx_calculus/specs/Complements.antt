@@ -7,7 +7,7 @@ use Rattle.zx_model.specs.Bits.{xor, member, one_if}
 use Rattle.zx_model.specs.Scalar.{one_scalar, product_of_scalars}
 use Rattle.zx_model.specs.declared.scalar.Scalar.{Scalar}
 use Rattle.zx_calculus.specs.Graph.{Plane, XY, XZ, YZ, Kind, Graph, ids, joined, plane_of, phase_of, is_XY, is_XZ}
-use Rattle.zx_calculus.specs.Graph.{is_interior, neighbours, Live, Interior, with_kinds}
+use Rattle.zx_calculus.specs.Graph.{is_interior, neighbours, IsVertex, Interior, with_kinds}
 use Rattle.zx_calculus.specs.Turns.{quarter_turned, complemented}
 use Rattle.zx_calculus.specs.Adjacency.{adjacent_graph}
 use Rattle.zx_calculus.specs.Edits.{KeepsEnds}
@@ -21,7 +21,7 @@ complement_kind u near p kind = if p == u then complemented kind else if near p 
 -- h is g after a local complement about the interior vertex u: every edge between two neighbours of u is
 -- toggled, each neighbour gets a quarter turn, and u its own change
 pub record IsLocalComplement (g : Graph) (u : ℕ) (h : Graph) : Type 0 where
-  pub there : Live g u
+  pub there : IsVertex g u
   pub interior : Interior g u
   pub vertices : h.vertices ≡ with_kinds (complement_kind u (joined g.edges u)) g.vertices
   pub edges : (p q : ℕ) → p ≢ q →

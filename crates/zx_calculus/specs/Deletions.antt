@@ -5,7 +5,7 @@ use Rattle.zx_model.specs.Phase.{half_turn, quarter_turn, is_half_turns, IsHalfT
 use Rattle.zx_model.specs.Bits.{member}
 use Rattle.zx_model.specs.Scalar.{product_of_scalars}
 use Rattle.zx_model.specs.declared.scalar.Scalar.{Scalar}
-use Rattle.zx_calculus.specs.Graph.{Plane, XY, XZ, YZ, Kind, Graph, ids, joined, plane_of, phase_of, is_XY, Live}
+use Rattle.zx_calculus.specs.Graph.{Plane, XY, XZ, YZ, Kind, Graph, ids, joined, plane_of, phase_of, is_XY, IsVertex}
 use Rattle.zx_calculus.specs.Graph.{neighbours, with_kinds, without}
 use Rattle.zx_calculus.specs.Turns.{half_turned}
 use Rattle.zx_calculus.specs.Adjacency.{adjacent_graph}
@@ -19,7 +19,7 @@ delete_kind phase near p kind = if (phase == half_turn) && near p then half_turn
 
 -- u is an XZ or YZ vertex whose phase is 0 or a half turn: it can be deleted
 pub record IsDeletable (g : Graph) (u : ℕ) : Type 0 where
-  pub there : Live g u
+  pub there : IsVertex g u
   pub plane : plane_of g u ≢ XY
   pub phase : IsHalfTurns (phase_of g u)
 

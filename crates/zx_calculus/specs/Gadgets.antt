@@ -5,7 +5,7 @@ use Rattle.std.specs.List.{list_all}
 use Rattle.zx_model.specs.Bits.{xor, member, one_if}
 use Rattle.zx_model.specs.declared.scalar.Scalar.{Scalar}
 use Rattle.zx_calculus.specs.Graph.{XY, YZ, Kind, Graph, ids, joined, plane_of, phase_of, is_XY, is_YZ, is_interior}
-use Rattle.zx_calculus.specs.Graph.{neighbours, Live, with_kinds, without}
+use Rattle.zx_calculus.specs.Graph.{neighbours, IsVertex, with_kinds, without}
 use Rattle.zx_calculus.specs.Turns.{with_phase_added}
 use Rattle.zx_calculus.specs.Scalars.{root_of_two_to}
 use Rattle.zx_calculus.specs.Adjacency.{adjacent_graph}
@@ -19,7 +19,7 @@ fuse_kind v k p kind = if p == v then with_phase_added k kind else kind
 
 -- h is g after the YZ vertex u went, which had no neighbours
 pub record IsDropLone (g : Graph) (u : ℕ) (h : Graph) : Type 0 where
-  pub there : Live g u
+  pub there : IsVertex g u
   pub plane : plane_of g u ≡ YZ
   pub lone : (p : ℕ) → joined g.edges u p ≡ false
   pub vertices : h.vertices ≡ without u g.vertices
@@ -30,9 +30,9 @@ pub record IsDropLone (g : Graph) (u : ℕ) (h : Graph) : Type 0 where
 -- Kissinger and van de Wetering (2020), on phase gadgets with one leg
 pub record IsFuseInto (g : Graph) (u : ℕ) (h : Graph) : Type 0 where
   pub into : ℕ
-  pub there : Live g u
+  pub there : IsVertex g u
   pub plane : plane_of g u ≡ YZ
-  pub into_there : Live g into
+  pub into_there : IsVertex g into
   pub into_plane : plane_of g into ≡ XY
   pub only_neighbour : (p : ℕ) → joined g.edges u p ≡ (p == into)
   pub vertices : h.vertices ≡ with_kinds (fuse_kind into (phase_of g u)) (without u g.vertices)
@@ -42,8 +42,8 @@ pub record IsFuseInto (g : Graph) (u : ℕ) (h : Graph) : Type 0 where
 -- h is g after v went and u gained its phase, both YZ, different, not adjacent, with equal neighbours.
 -- Kissinger and van de Wetering (2020), gadget fusion
 pub record IsFuseTwin (g : Graph) (u v : ℕ) (h : Graph) : Type 0 where
-  pub there : Live g u
-  pub there_too : Live g v
+  pub there : IsVertex g u
+  pub there_too : IsVertex g v
   pub different : u ≢ v
   pub plane : plane_of g u ≡ YZ
   pub plane_too : plane_of g v ≡ YZ

@@ -33,6 +33,10 @@ pub record End : Type 0 where
   pub vertex : ℕ
   pub hadamard : Bool
 
+-- an end without a Hadamard
+abbrev pub plain : ℕ → End
+plain v = record { vertex = v; hadamard = false }
+
 -- bit i of the inputs belongs to the i-th input, and likewise for the outputs
 pub record Graph : Type 0 where
   pub vertices : List Vertex
@@ -70,8 +74,8 @@ end_vertices [] = []
 end_vertices (e ∷ es) = e.vertex ∷ end_vertices es
 
 -- u is a vertex of g
-abbrev pub Live : Graph → ℕ → Type 0
-Live g u = member u (ids g.vertices) ≡ true
+abbrev pub IsVertex : Graph → ℕ → Type 0
+IsVertex g u = member u (ids g.vertices) ≡ true
 
 -- u holds no end
 pub record Interior (g : Graph) (u : ℕ) : Type 0 where

@@ -5,29 +5,29 @@
 use Rattle.std.specs.Prelude.{◌≡◌, ◌≢◌, ℕ, true, length}
 use Rattle.zx_model.specs.Phase.{IsHalfTurns, IsQuarterTurn}
 use Rattle.zx_calculus.specs.Deletions.{IsDeletable}
-use Rattle.zx_calculus.specs.Graph.{XY, XZ, YZ, Graph, joined, plane_of, phase_of, neighbours, Live, Interior}
+use Rattle.zx_calculus.specs.Graph.{XY, XZ, YZ, Graph, joined, plane_of, phase_of, neighbours, IsVertex, Interior}
 
 -- u is a YZ vertex of a quarter turn, or three: a local complement makes it deletable
 pub record IsQuarterGadget (g : Graph) (u : ℕ) : Type 0 where
-  pub there : Live g u
+  pub there : IsVertex g u
   pub plane : plane_of g u ≡ YZ
   pub phase : IsQuarterTurn (phase_of g u)
 
 -- u is an XZ vertex: a local complement makes it XY
 pub record IsInXZ (g : Graph) (u : ℕ) : Type 0 where
-  pub there : Live g u
+  pub there : IsVertex g u
   pub plane : plane_of g u ≡ XZ
 
 -- u is an interior XY vertex of a quarter turn, or three: a local complement makes it deletable
 pub record IsQuarterSpider (g : Graph) (u : ℕ) : Type 0 where
-  pub there : Live g u
+  pub there : IsVertex g u
   pub interior : Interior g u
   pub plane : plane_of g u ≡ XY
   pub phase : IsQuarterTurn (phase_of g u)
 
 -- u is an interior XY vertex of half turns
 pub record IsHalfSpider (g : Graph) (u : ℕ) : Type 0 where
-  pub there : Live g u
+  pub there : IsVertex g u
   pub interior : Interior g u
   pub plane : plane_of g u ≡ XY
   pub phase : IsHalfTurns (phase_of g u)
@@ -46,22 +46,22 @@ pub record IsBoundaryPivot (g : Graph) (u v : ℕ) : Type 0 where
 
 -- u and v are adjacent YZ vertices: a pivot makes both XY
 pub record IsGadgetPair (g : Graph) (u v : ℕ) : Type 0 where
-  pub there : Live g u
-  pub there_too : Live g v
+  pub there : IsVertex g u
+  pub there_too : IsVertex g v
   pub plane : plane_of g u ≡ YZ
   pub plane_too : plane_of g v ≡ YZ
   pub adjacent : joined g.edges u v ≡ true
 
 -- u is a YZ vertex of n neighbours: where it has none it is dropped, where it has one it is fused into that
 pub record IsGadgetOf (g : Graph) (u n : ℕ) : Type 0 where
-  pub there : Live g u
+  pub there : IsVertex g u
   pub plane : plane_of g u ≡ YZ
   pub legs : length (neighbours g u) ≡ n
 
 -- u and v are different YZ vertices of equal neighbours: they are fused
 pub record AreTwins (g : Graph) (u v : ℕ) : Type 0 where
-  pub there : Live g u
-  pub there_too : Live g v
+  pub there : IsVertex g u
+  pub there_too : IsVertex g v
   pub different : u ≢ v
   pub plane : plane_of g u ≡ YZ
   pub plane_too : plane_of g v ≡ YZ
@@ -82,4 +82,4 @@ pub record IsStuck (g : Graph) : Type 0 where
 
 -- each interior XY vertex has a neighbour, as in a graph with a flow
 abbrev pub HasInnerNeighbours : Graph → Type 0
-HasInnerNeighbours g = (u : ℕ) → Live g u → Interior g u → plane_of g u ≡ XY → (v : ℕ) × (joined g.edges u v ≡ true)
+HasInnerNeighbours g = (u : ℕ) → IsVertex g u → Interior g u → plane_of g u ≡ XY → (v : ℕ) × (joined g.edges u v ≡ true)

@@ -1,7 +1,7 @@
 -- Graphs of one phase gate.
 use Rattle.std.specs.Prelude.{ℕ, [], ◌∷◌}
-use Rattle.zx_calculus.specs.Graph.{XY, YZ, Graph}
-use Rattle.zx_calculus.specs.Worked.{vertex, edge, plain, graph}
+use Rattle.zx_calculus.specs.Graph.{XY, YZ, Graph, plain}
+use Rattle.zx_calculus.specs.Worked.{vertex, edge, graph}
 
 -- one spider, its input and its output
 abbrev pub phase_graph : ℕ → Graph

@@ -8,7 +8,7 @@ use Rattle.zx_model.specs.Bits.{xor, member, one_if}
 use Rattle.zx_model.specs.Scalar.{one_scalar, product_of_scalars}
 use Rattle.zx_model.specs.declared.scalar.Scalar.{Scalar}
 use Rattle.zx_calculus.specs.Graph.{Plane, XY, XZ, YZ, Kind, Graph, ids, joined, plane_of, phase_of, is_XY, is_YZ}
-use Rattle.zx_calculus.specs.Graph.{is_interior, neighbours, Live, Interior, with_kinds}
+use Rattle.zx_calculus.specs.Graph.{is_interior, neighbours, IsVertex, Interior, with_kinds}
 use Rattle.zx_calculus.specs.Turns.{half_turned, pivoted}
 use Rattle.zx_calculus.specs.Adjacency.{adjacent_graph}
 use Rattle.zx_calculus.specs.Edits.{KeepsEnds}
@@ -24,8 +24,8 @@ pivot_kind u v near_u near_v p kind =
 -- are toggled between the three classes (adjacent to u alone, to v alone, to both), and the common neighbours
 -- get a half turn
 pub record IsPivot (g : Graph) (u v : ℕ) (h : Graph) : Type 0 where
-  pub there : Live g u
-  pub there_too : Live g v
+  pub there : IsVertex g u
+  pub there_too : IsVertex g v
   pub interior : Interior g u
   pub interior_too : Interior g v
   pub adjacent : joined g.edges u v ≡ true

@@ -4,7 +4,7 @@ use Rattle.zx_model.specs.Proportional.{Proportional}
 use Rattle.zx_model.specs.Scalar.{IsScaled}
 use Rattle.zx_model.specs.declared.scalar.Scalar.{Scalar}
 use Rattle.zx_calculus.specs.Graph.{Graph}
-use Rattle.zx_calculus.specs.Sum.{sum}
+use Rattle.zx_calculus.specs.Sum.{graph_sum}
 use Rattle.zx_calculus.specs.Complements.{complement_scalar}
 use Rattle.zx_calculus.specs.Deletions.{delete_scalar}
 use Rattle.zx_calculus.specs.Pivots.{pivot_scalar}
@@ -15,11 +15,11 @@ use Rattle.zx_calculus.specs.Steps.{FuseTwin}
 
 -- the sum of g is s times that of h
 abbrev pub IsSumTimes : Graph → Scalar → Graph → Type 0
-IsSumTimes g s h = IsScaled (length g.inputs) (length g.outputs) (sum g) s (sum h)
+IsSumTimes g s h = IsScaled (length g.inputs) (length g.outputs) (graph_sum g) s (graph_sum h)
 
 -- the sum of g is that of h, up to a number other than 0
 abbrev pub KeepsMap : Graph → Graph → Type 0
-KeepsMap g h = Proportional (length g.inputs) (length g.outputs) (sum g) (sum h)
+KeepsMap g h = Proportional (length g.inputs) (length g.outputs) (graph_sum g) (graph_sum h)
 
 abbrev pub step_scalar : Graph → Step → Scalar
 step_scalar g (LocalComplement u) = complement_scalar g u

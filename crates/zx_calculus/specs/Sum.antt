@@ -48,5 +48,5 @@ term g x y label =
     (mul (edge_product g.edges label) (mul (end_product g.inputs x label) (end_product g.outputs y label)))
 
 -- the sum over all labels of the vertices
-abbrev pub sum : Graph → List Bool → List Bool → Number
-sum g x y = total (map (λ hs. term g x y (label_of (ids g.vertices) hs)) (all_labels (length g.vertices)))
+abbrev pub graph_sum : Graph → List Bool → List Bool → Number
+graph_sum g x y = total (map (λ hs. term g x y (label_of (ids g.vertices) hs)) (all_labels (length g.vertices)))

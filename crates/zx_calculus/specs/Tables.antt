@@ -1,8 +1,8 @@
 -- Tables of the factors of a vertex, computed apart from the definitions, and sums of small graphs.
 use Rattle.std.specs.Prelude.{ℕ, ℤ, pos, negsuc, true, List, [], ◌∷◌, ◌++◌}
 use Rattle.zx_model.specs.Number.{Number, one}
-use Rattle.zx_calculus.specs.Graph.{XY, Graph}
-use Rattle.zx_calculus.specs.Worked.{vertex, edge, plain, graph}
+use Rattle.zx_calculus.specs.Graph.{XY, Graph, plain}
+use Rattle.zx_calculus.specs.Worked.{vertex, edge, graph}
 
 -- a + b*z + c*z^2 + .. + h*z^7, with z*z = w
 abbrev pub number : ℤ → ℤ → ℤ → ℤ → ℤ → ℤ → ℤ → ℤ → Number

@@ -1,7 +1,7 @@
 -- Worked graphs, for facts by computation.
-use Rattle.std.specs.Prelude.{ℕ, ◌+◌, true, false, List, [], ◌∷◌}
+use Rattle.std.specs.Prelude.{ℕ, ◌+◌, true, List, [], ◌∷◌}
 use Rattle.zx_model.specs.Phase.{half_turn, quarter_turn, eighth_turn}
-use Rattle.zx_calculus.specs.Graph.{Plane, XY, XZ, YZ, Vertex, Edge, End, Graph}
+use Rattle.zx_calculus.specs.Graph.{Plane, XY, XZ, YZ, Vertex, Edge, End, Graph, plain}
 use Rattle.zx_calculus.specs.Turns.{in_plane}
 
 -- three quarter turns
@@ -13,9 +13,6 @@ vertex id plane phase = record { id = id; kind = in_plane plane phase }
 
 abbrev pub edge : ℕ → ℕ → Edge
 edge p q = record { lower = p; higher = q }
-
-abbrev pub plain : ℕ → End
-plain v = record { vertex = v; hadamard = false }
 
 abbrev pub graph : List Vertex → List Edge → List End → List End → Graph
 graph vertices edges inputs outputs = record { vertices = vertices; edges = edges; inputs = inputs; outputs = outputs }

@@ -6,7 +6,7 @@ ghost use Rattle.zx_model.specs.Phase.{turn};
 ghost use Rattle.zx_model.specs.Bits.{xor};
 ghost use Rattle.zx_calculus.specs.Graph.{Kind, Graph, WellFormed};
 ghost use Rattle.zx_model.specs.Constants.{two};
-ghost use Rattle.zx_calculus.specs.Sum.{sum};
+ghost use Rattle.zx_calculus.specs.Sum.{graph_sum};
 ghost use Rattle.zx_calculus.specs.Turns.{quarter_turned, half_turned, pivoted};
 ghost use Rattle.zx_calculus.specs.Complements.{IsLocalComplement};
 ghost use Rattle.zx_calculus.specs.Pivots.{IsPivot};
@@ -17,9 +17,9 @@ ghost use Rattle.zx_calculus.specs.PhaseGates.{phase_graph, gadget_graph};
 /// The phase gates, as a spider and as a gadget on one, with its scalar.
 pub fn sums_of_phase_gates()
     ensures spider { (k : ℕ) (x y : Bool) →
-        sum (phase_graph k) (x ∷ []) (y ∷ []) ≡ (if xor x y then zero else if x then root_power k else one) }
+        graph_sum (phase_graph k) (x ∷ []) (y ∷ []) ≡ (if xor x y then zero else if x then root_power k else one) }
     ensures gadget { (k : ℕ) (x y : Bool) →
-        sum (gadget_graph k) (x ∷ []) (y ∷ []) ≡
+        graph_sum (gadget_graph k) (x ∷ []) (y ∷ []) ≡
         (if xor x y then zero else (mul two (if x then root_power k else one))) }
 {}
 
@@ -32,7 +32,7 @@ pub fn identities_of_steps()
         allowed g (FuseTwin u v) ≡ allowed g (FuseTwin v u) }
     ensures twins_fused_either_way { (g : Graph) (u v : ℕ) (h k : Graph) (x y : List Bool) →
         WellFormed g → IsFuseTwin g u v h → IsFuseTwin g v u k → length x ≡ length g.inputs →
-        length y ≡ length g.outputs → sum h x y ≡ sum k x y }
+        length y ≡ length g.outputs → graph_sum h x y ≡ graph_sum k x y }
     ensures pivot_allowed_either_way { (g : Graph) (u v : ℕ) →
         allowed g (Pivot u v) ≡ allowed g (Pivot v u) }
     ensures pivot_either_way { (g : Graph) (u v : ℕ) (h : Graph) → IsPivot g u v h → IsPivot g v u h }

@@ -6,7 +6,7 @@ ghost use Rattle.zx_model.specs.Phase.{eighth_turn};
 ghost use Rattle.zx_model.specs.Bits.{xor};
 ghost use Rattle.zx_model.specs.Scalar.{IsWithin};
 ghost use Rattle.zx_calculus.specs.Graph.{XY, XZ, YZ, Graph, WellFormed};
-ghost use Rattle.zx_calculus.specs.Sum.{sum, factor, spider};
+ghost use Rattle.zx_calculus.specs.Sum.{graph_sum, factor, spider};
 ghost use Rattle.zx_calculus.specs.Turns.{in_plane};
 ghost use Rattle.zx_model.specs.Constants.{two, i, root_of_two};
 ghost use Rattle.zx_calculus.specs.Pivots.{IsPivot};
@@ -94,12 +94,12 @@ pub fn worked_sums()
     ensures two { two ≡ mul root_of_two root_of_two }
     ensures one_plus_i { add one i ≡ mul root_of_two (root_power eighth_turn) }
     ensures one_minus_i { mul (add one (neg i)) (root_power eighth_turn) ≡ root_of_two }
-    ensures hadamard { (x y : Bool) → sum hadamard_wire (x ∷ []) (y ∷ []) ≡ sign (x && y) }
+    ensures hadamard { (x y : Bool) → graph_sum hadamard_wire (x ∷ []) (y ∷ []) ≡ sign (x && y) }
     ensures marked { (k : ℕ) (x y : Bool) →
-        sum (marked_spider k) (x ∷ []) (y ∷ []) ≡ mul (spider k x) (sign (x && y)) }
-    ensures controlled_z { (x0 x1 y0 y1 : Bool) → sum controlled_z (x0 ∷ x1 ∷ []) (y0 ∷ y1 ∷ []) ≡
+        graph_sum (marked_spider k) (x ∷ []) (y ∷ []) ≡ mul (spider k x) (sign (x && y)) }
+    ensures controlled_z { (x0 x1 y0 y1 : Bool) → graph_sum controlled_z (x0 ∷ x1 ∷ []) (y0 ∷ y1 ∷ []) ≡
         (if xor x0 y0 || xor x1 y1 then zero else sign (x0 && x1)) }
-    ensures crossing { (x0 x1 y0 y1 : Bool) → sum crossing (x0 ∷ x1 ∷ []) (y0 ∷ y1 ∷ []) ≡
+    ensures crossing { (x0 x1 y0 y1 : Bool) → graph_sum crossing (x0 ∷ x1 ∷ []) (y0 ∷ y1 ∷ []) ≡
         (if xor x0 y1 || xor x1 y0 then zero else one) }
 {}
 

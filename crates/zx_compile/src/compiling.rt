@@ -3,7 +3,7 @@
 ghost use Rattle.std.specs.Prelude.{◌≡◌, ◌≢◌, ◌≤◌, [], length, IfOk};
 ghost use Rattle.zx_model.specs.Proportional.{Proportional};
 ghost use Rattle.zx_calculus.specs.Counts.{odd_phases};
-ghost use Rattle.zx_diagram.specs.Sum.{sum};
+ghost use Rattle.zx_diagram.specs.Sum.{diagram_sum};
 ghost use Rattle.flow_find.specs.Stuck.{HasFlow, IsLargestStuck};
 ghost use Rattle.zx_gates.specs.Circuit.{most_qubits, gate_odd_phases};
 ghost use Rattle.zx_gates.specs.Maps.{amp};
@@ -59,7 +59,7 @@ pub fn compile(alloc: Global, d: Diagram) -> Result<Compiled, AllocError>
     ensures qubits { IfOk result (λ made.
         IfCircuit made (λ circuit. circuit.qubits ≡ length d.inputs)) }
     ensures map { IfOk result (λ made. IfCircuit made (λ circuit.
-        Proportional (length d.inputs) (length d.inputs) (sum d) (amp circuit.gates))) }
+        Proportional (length d.inputs) (length d.inputs) (diagram_sum d) (amp circuit.gates))) }
 
     // Its gates.
     ensures odd { IfOk result (λ made. IfCircuit made (λ circuit.

@@ -56,5 +56,5 @@ term d x y label =
     (mul (leg_product d.spiders d.inputs x label) (leg_product d.spiders d.outputs y label)))
 
 -- the sum over all labels of the spiders
-abbrev pub sum : Diagram → List Bool → List Bool → Number
-sum d x y = total (map (λ hs. term d x y (label_of (numbers d) hs)) (all_labels (length d.spiders)))
+abbrev pub diagram_sum : Diagram → List Bool → List Bool → Number
+diagram_sum d x y = total (map (λ hs. term d x y (label_of (numbers d) hs)) (all_labels (length d.spiders)))

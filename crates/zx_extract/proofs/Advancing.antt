@@ -4,8 +4,7 @@ use Rattle.std.specs.Prelude.{slice_get}
 use Rattle.std.proofs.Math.ListN.{length-set}
 use Rattle.std.proofs.lemmas.List.Elements.{All-cons, All-nil}
 use Rattle.zx_model.specs.Bits.{member, one_if}
-use Rattle.zx_calculus.specs.Graph.{XY, Kind, Vertex, ids, kind_of, plane_of, joined, end_vertices, is_XY, different, without, WellFormed}
-use Rattle.zx_calculus.specs.Worked.{plain}
+use Rattle.zx_calculus.specs.Graph.{XY, Kind, Vertex, ids, kind_of, plane_of, joined, end_vertices, is_XY, different, without, WellFormed, plain}
 use Rattle.zx_calculus.specs.Counts.{not_XY, XY_without_output}
 use Rattle.zx_calculus.proofs.Booleans.{and-false, and-true}
 use Rattle.zx_calculus.proofs.Ids.{eqb-self, member-removed_other}

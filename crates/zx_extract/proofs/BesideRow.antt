@@ -4,9 +4,8 @@ use Rattle.std.proofs.Common.{◌≡◌, ◌≢◌, refl, sym, ◌∙◌, ap, ap
 use Rattle.std.specs.Prelude.{slice_get}
 use Rattle.zx_model.specs.Bits.{xor, member}
 use Rattle.zx_model.proofs.BitLemmas.{xor_comm, xor-false}
-use Rattle.zx_calculus.specs.Graph.{YZ, Graph, ids, kind_of, plane_of, joined, end_vertices, Live, WellFormed}
+use Rattle.zx_calculus.specs.Graph.{YZ, Graph, ids, kind_of, plane_of, joined, end_vertices, IsVertex, WellFormed, plain}
 use Rattle.zx_calculus.specs.Adjacency.{adjacent_graph}
-use Rattle.zx_calculus.specs.Worked.{plain}
 use Rattle.zx_calculus.proofs.Booleans.{and_comm, and-false}
 use Rattle.zx_calculus.proofs.Ids.{by_equal, Symmetric, apart_of_member}
 use Rattle.zx_calculus.proofs.Edges.{joined_comm}
@@ -31,7 +30,7 @@ use Rattle.zx_extract.proofs.Rows.{edges_are, gathered_nothing, gathered_row, ga
 abbrev pub with_row : Graph → ℕ → ℕ → Graph
 with_row g c t = adjacent_graph g g.vertices (row_added (joined g.edges) c t)
 
-module _ (g : Graph) (c t : ℕ) (wf : WellFormed g) (there : Live g t) where
+module _ (g : Graph) (c t : ℕ) (wf : WellFormed g) (there : IsVertex g t) where
   symmetric : Symmetric (row_added (joined g.edges) c t)
   symmetric p q = ap₂ xor (joined_comm g.edges p q)
       (xor_comm (eqb t p && joined g.edges c q) (joined g.edges c p && eqb t q)
@@ -164,7 +163,7 @@ row_replaced s v q u g o taken = record {
 
 module _ (s : Remainder) (v q : ℕ) (d : Remainder) (b : IsGatheredBesideRow s q (length s.graph.outputs) d)
     (last : HasLast s.table v) (plane : plane_of s.graph v ≡ YZ) where
-  pub beside_live : Live d.graph v
+  pub beside_live : IsVertex d.graph v
   beside_live = ap (λ vs. member v (ids vs)) b.alike.vertices
       ∙ last_live b.gathered.rows.ready b.gathered.rows.frontier
       (whole_last s q (length s.graph.outputs) v d b last)

@@ -2,10 +2,9 @@
 use Rattle.std.proofs.Common.{◌≡◌, ◌≢◌, refl, sym, ◌∙◌, ap, ap₂, subst, ℕ, Bool, true, false, not, eqb, ne_eqb, List, ◌∷◌, ◌++◌, set, true≢false, le_of_eq, arith}
 use Rattle.std.specs.Prelude.{slice_get, Some, Result, Ok, Err, OnOk, IfOk}
 use Rattle.zx_model.specs.Bits.{xor, one_if}
-use Rattle.zx_calculus.specs.Graph.{XY, Plane, Kind, End, Graph, kind_of, joined, with_kinds, Live}
+use Rattle.zx_calculus.specs.Graph.{XY, Plane, Kind, End, Graph, kind_of, joined, with_kinds, IsVertex, plain}
 use Rattle.zx_calculus.specs.Turns.{in_plane}
 use Rattle.zx_calculus.specs.Edits.{is_pair, IsToggle, at_vertex}
-use Rattle.zx_calculus.specs.Worked.{plain}
 use Rattle.zx_calculus.proofs.Ids.{by_equal}
 use Rattle.zx_calculus.proofs.Splitting.{no_loop}
 use Rattle.zx_calculus.proofs.Edits.{with_kinds-at}
@@ -85,7 +84,7 @@ unmarked {s} {t} {q} {e} given at_q had moved is = record {
     }
 
 -- ---- a phase
-pub output_live : {s : Remainder} {u : ℕ} (q : ℕ) → IsReady s → HasPlainOutput s.graph q u → Live s.graph u
+pub output_live : {s : Remainder} {u : ℕ} (q : ℕ) → IsReady s → HasPlainOutput s.graph q u → IsVertex s.graph u
 output_live {s} {u} q r at_q = output_there s.graph q (plain u) r.given.well_formed at_q
 
 pub phase_taken : {s t : Remainder} {u k zero_phase : ℕ} {plane : Plane} {g : Graph} (q : ℕ) → IsReady s →

@@ -5,8 +5,7 @@ use Rattle.std.specs.List.{swap}
 use Rattle.std.proofs.Math.ListN.{length-set}
 use Rattle.std.proofs.lemmas.List.{map-set, take_all, take-set-le, take_more_set}
 use Rattle.zx_model.specs.Bits.{member}
-use Rattle.zx_calculus.specs.Graph.{Vertex, End, ids, end_vertices, is_XY, in_order, different, Live, Distinct, WellFormed}
-use Rattle.zx_calculus.specs.Worked.{plain}
+use Rattle.zx_calculus.specs.Graph.{Vertex, End, ids, end_vertices, is_XY, in_order, different, IsVertex, Distinct, WellFormed, plain}
 use Rattle.zx_calculus.specs.Counts.{XY_without_output}
 use Rattle.zx_calculus.proofs.Ids.{by_test, and-left, and-right, Distinct-different}
 use Rattle.zx_calculus.proofs.Booleans.{or-true}
@@ -93,7 +92,7 @@ slice_get-plain (u ∷ us) (suc i) w h = slice_get-plain us i w h
 
 module _ (s : Remainder) (r : IsReady s) (f : IsFrontier s.graph) (none : s.table ≡ [])
     (ends : length s.graph.inputs ≡ length s.graph.outputs) where
-  all : (v : ℕ) → Live s.graph v → (member v (end_vertices s.graph.inputs) ≡ true) ×
+  all : (v : ℕ) → IsVertex s.graph v → (member v (end_vertices s.graph.inputs) ≡ true) ×
       (member v (end_vertices s.graph.outputs) ≡ true)
   all = all_ends s.graph r.given.well_formed (subst (IsFlow s.graph) none r.given.flow) ends
 

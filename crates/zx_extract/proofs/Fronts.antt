@@ -5,11 +5,10 @@ use mathlib.Core.Bool.{beq}
 use Rattle.std.proofs.lemmas.Option.{slice_get_within}
 use Rattle.std.specs.Prelude.{◌⊎◌, slice_get, Some, if◌then◌else◌}
 use Rattle.zx_model.specs.Bits.{xor, member}
-use Rattle.zx_calculus.specs.Graph.{Kind, End, Graph, ids, joined, end_vertices, neighbours, with_kinds, without, Live, Interior, OrderedEdges, WellFormed}
+use Rattle.zx_calculus.specs.Graph.{Kind, End, Graph, ids, joined, end_vertices, neighbours, with_kinds, without, IsVertex, Interior, OrderedEdges, WellFormed, plain}
 use Rattle.zx_calculus.specs.Edits.{is_pair, IsToggle, IsRemoval}
 use Rattle.zx_calculus.specs.Toggles.{across, IsToggled}
 use Rattle.zx_calculus.specs.Adjacency.{edges_of}
-use Rattle.zx_calculus.specs.Worked.{plain}
 use Rattle.zx_calculus.proofs.Booleans.{and-false, and-true, xor-false, or-true, or-false}
 use Rattle.zx_calculus.proofs.Ids.{by_test, by_equal, eqb-self, Symmetric, member-removed_other, and-left, and-right}
 use Rattle.zx_calculus.proofs.Edges.{joined_comm}
@@ -262,7 +261,7 @@ module _ (g : Graph) (old new : List VertexSet) (u v : ℕ) (wf : WellFormed g) 
 
 -- ---- a row that is replaced
 module _ (g : Graph) (old new : List VertexSet) (u v : ℕ) (row : List ℕ) (wf : WellFormed g)
-    (at_u : member u (end_vertices g.outputs) ≡ true) (live_v : Live g v) (out_v : member v (end_vertices g.outputs) ≡ false)
+    (at_u : member u (end_vertices g.outputs) ≡ true) (live_v : IsVertex g v) (out_v : member v (end_vertices g.outputs) ≡ false)
     (apart : AreOutputsApart (front_graph g old)) (put : IsRowPut old u row new)
     (row_is : (w : ℕ) → member w row ≡ (joined g.edges v w && not (member w (end_vertices g.outputs)))) where
   pub row_taken : IsRowTaken (front_graph g old) v u (front_graph g new)
@@ -309,7 +308,7 @@ module _ (g h : Graph) (old new : List VertexSet) (v : ℕ) (wf : WellFormed g) 
 
 -- ---- an output that moves on
 module _ (g met end : Graph) (old new : List VertexSet) (t u v : ℕ) (row : List ℕ) (wf : WellFormed g) (wf_end : WellFormed end)
-    (at_t : slice_get g.outputs t ≡ Some (plain u)) (live_v : Live g v) (out_v : member v (end_vertices g.outputs) ≡ false)
+    (at_t : slice_get g.outputs t ≡ Some (plain u)) (live_v : IsVertex g v) (out_v : member v (end_vertices g.outputs) ≡ false)
     (is_met : IsMet g old v (end_vertices g.outputs) met)
     (removal : IsRemoval (record met { outputs = set met.outputs t (plain v) }) u end)
     (row_is : (w : ℕ) → member w row ≡ (joined g.edges v w && not (member w (end_vertices g.outputs))))
@@ -394,7 +393,7 @@ module _ {g met : Graph} {rows : List VertexSet} (t : ℕ) {u v : ℕ} (wf : Wel
     pub moved_is : moved ≡ record met { outputs = set met.outputs t (plain v) }
     moved_is = is ∙ ap (λ d. record met { outputs = set met.outputs t d }) is_plain
 
-    pub here_live : Live moved u
+    pub here_live : IsVertex moved u
     here_live = ap (λ (h : Graph). member u (ids h.vertices)) is ∙ ap (λ vs. member u (ids vs)) is_met.vertices
         ∙ output_live g rows wf u (member-places g.outputs t (plain u) at_t)
 

@@ -8,9 +8,9 @@ use Rattle.zx_calculus.specs.Graph.{XY, XZ, YZ, Plane, Graph, ids, end_vertices,
 use Rattle.zx_calculus.proofs.Ids.{by_test, by_equal, removed, member-removed, Distinct-removed, member-here, member-there, member-filter, member-append, Distinct-different, eqb-self, and-left, and-right, or-left, or-right}
 use Rattle.zx_calculus.proofs.Booleans.{and-false, or-true, or-false, parities}
 use Rattle.zx_calculus.proofs.Splitting.{all_at, distinct}
-use Rattle.gflow_laws.specs.Seen.{Seen, seen, odd}
-use Rattle.gflow_laws.specs.Flow.{Correction, order_of, set_of, is_in, is_later, IsFlow}
-use Rattle.gflow_laws.specs.Correcting.{Corrects, FlowAsFunctions, inside_in, odd_in}
+use Rattle.gflow_laws.specs.Seen.{Seen, seen, in_odd_neighbourhood}
+use Rattle.gflow_laws.specs.Flow.{Correction, order_of, set_of, is_in, is_later, IsFlow, Corrects, inside_in, odd_in}
+use Rattle.gflow_laws.specs.Correcting.{FlowAsFunctions}
 use Rattle.gflow_laws.proofs.Linear.{masked-none, member-removed as member-of_removed}
 use Rattle.gflow_laws.proofs.Corrects.{odd-xor}
 use Rattle.gflow_laws.proofs.Flows.{Flows-from, live}
@@ -172,13 +172,13 @@ unpicked (row ∷ rows) (picked ∷ set) x none = ap₂ (λ a b. xor (a && row x
 
 -- whether v has an odd number of neighbours in the set; where that is even in its own set, whether it is in the set
 own_at : Seen → ℕ → (ℕ → Bool) → Bool
-own_at s v A = if odd_in (s.plane v) then odd s A v else A v
+own_at s v A = if odd_in (s.plane v) then in_odd_neighbourhood s A v else A v
 
-either_at : (s : Seen) (v : ℕ) (A : ℕ → Bool) (b : Bool) → odd s A v ≡ b → A v ≡ b → own_at s v A ≡ b
+either_at : (s : Seen) (v : ℕ) (A : ℕ → Bool) (b : Bool) → in_odd_neighbourhood s A v ≡ b → A v ≡ b → own_at s v A ≡ b
 unfolding own_at
 either_at s v A b p q = at (odd_in (s.plane v))
   where
-    at : (c : Bool) → (if c then odd s A v else A v) ≡ b
+    at : (c : Bool) → (if c then in_odd_neighbourhood s A v else A v) ≡ b
     at true = p
     at false = q
 
@@ -189,7 +189,7 @@ own-xor : (s : Seen) (v : ℕ) (A B : ℕ → Bool) → own_at s v (λ x. xor (A
 unfolding own_at
 own-xor s v A B = at (odd_in (s.plane v))
   where
-    at : (c : Bool) → (if c then odd s (λ x. xor (A x) (B x)) v else xor (A v) (B v)) ≡ xor (if c then odd s A v else A v) (if c then odd s B v else B v)
+    at : (c : Bool) → (if c then in_odd_neighbourhood s (λ x. xor (A x) (B x)) v else xor (A v) (B v)) ≡ xor (if c then in_odd_neighbourhood s A v else A v) (if c then in_odd_neighbourhood s B v else B v)
     at true = odd-xor s A B v
     at false = refl
 
@@ -208,7 +208,7 @@ own_there : (s : Seen) (before : ℕ → ℕ → Bool) (v : ℕ) (A : ℕ → Bo
 unfolding own_at
 own_there s before v A a = at (s.plane v) a.inside a.odd_there
   where
-    at : (plane : Plane) → A v ≡ inside_in plane → odd s A v ≡ odd_in plane → (if odd_in plane then odd s A v else A v) ≡ true
+    at : (plane : Plane) → A v ≡ inside_in plane → in_odd_neighbourhood s A v ≡ odd_in plane → (if odd_in plane then in_odd_neighbourhood s A v else A v) ≡ true
     at XY inside odd_there = odd_there
     at XZ inside odd_there = odd_there
     at YZ inside odd_there = inside
@@ -216,7 +216,7 @@ own_there s before v A a = at (s.plane v) a.inside a.odd_there
 not_before : (s : Seen) (before : ℕ → ℕ → Bool) (u v : ℕ) (A : ℕ → Bool) → Corrects s before u A → member v s.ids ≡ true → v ≢ u → before u v ≡ false → own_at s v A ≡ false
 not_before s before u v A a within ne none =
     either_at s v A false
-    (false_from_ne_true (odd s A v) (λ t. true≢false (sym (a.odd_order v within t ne) ∙ none)))
+    (false_from_ne_true (in_odd_neighbourhood s A v) (λ t. true≢false (sym (a.odd_order v within t ne) ∙ none)))
     (false_from_ne_true (A v) (λ t. true≢false (sym (a.order v t ne) ∙ none)))
 
 -- ---- in a flow
@@ -300,7 +300,7 @@ module _ (g : Graph) (table : List Correction) (wf : WellFormed g) (flow : IsFlo
           one_of false = refl
 
   module _ (set : ℕ → Bool) (outputs : (w : ℕ) → set w ≡ true → (member w (end_vertices g.outputs) ≡ true) × (member w (end_vertices g.inputs) ≡ false))
-      (even : (v : ℕ) → member v (ids g.vertices) ≡ true → member v (end_vertices g.outputs) ≡ false → odd (seen g) set v ≡ false) where
+      (even : (v : ℕ) → member v (ids g.vertices) ≡ true → member v (end_vertices g.outputs) ≡ false → in_odd_neighbourhood (seen g) set v ≡ false) where
     abbrev sets : ℕ → ℕ → Bool
     sets u = is_in (set_of table u)
 

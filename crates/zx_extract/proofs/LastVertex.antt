@@ -1,14 +1,14 @@
 -- The last vertex of a flow, whose set has outputs beside itself: how many of them are left in it decides what it is.
 use Rattle.std.proofs.Common.{◌≡◌, ◌≢◌, refl, sym, ◌∙◌, ap, ap₂, subst, ℕ, Bool, true, false, not, ◌&&◌, ◌||◌, eqb, eqb-true, eq-eqb, ne_eqb, [], ◌∷◌, ◌++◌, true≢false}
 use Rattle.zx_model.specs.Bits.{member}
-use Rattle.zx_calculus.specs.Graph.{XY, XZ, YZ, Plane, ids, plane_of, joined, end_vertices, Live}
+use Rattle.zx_calculus.specs.Graph.{XY, XZ, YZ, Plane, ids, plane_of, joined, end_vertices, IsVertex}
 use Rattle.zx_calculus.proofs.Booleans.{and-false}
 use Rattle.zx_calculus.proofs.Ids.{by_test, by_equal, eqb-self}
 use Rattle.zx_calculus.proofs.Edges.{joined_comm}
 use Rattle.zx_calculus.proofs.Splitting.{no_loop, joined-absent}
-use Rattle.gflow_laws.specs.Seen.{seen, odd}
-use Rattle.gflow_laws.specs.Flow.{order_of, is_in, is_later, IsFlow}
-use Rattle.gflow_laws.specs.Correcting.{Corrects, FlowAsFunctions, inside_in}
+use Rattle.gflow_laws.specs.Seen.{seen, in_odd_neighbourhood}
+use Rattle.gflow_laws.specs.Flow.{order_of, is_in, is_later, IsFlow, Corrects, inside_in}
+use Rattle.gflow_laws.specs.Correcting.{FlowAsFunctions}
 use Rattle.gflow_laws.specs.Outputs.{IsLast, others}
 use Rattle.gflow_laws.proofs.Linear.{masked-none}
 use Rattle.gflow_laws.proofs.Flows.{live, Flows-from}
@@ -51,7 +51,7 @@ module _ {s : Remainder} {v : ℕ} (r : IsReady s) (f : IsFrontier s.graph) (las
   listed : member last.entry.vertex (order_of (last.before ++ last.entry ∷ [])) ≡ true
   listed = last_listed last.before last.entry
 
-  pub last_live : Live s.graph v
+  pub last_live : IsVertex s.graph v
   last_live = ap (λ x. member x (ids s.graph.vertices)) (sym last.vertex)
       ∙ live (seen s.graph) (last.before ++ last.entry ∷ []) functions last.entry.vertex listed
 
@@ -175,7 +175,7 @@ module _ {s : Remainder} {v : ℕ} (r : IsReady s) (f : IsFrontier s.graph) (las
         nothing x = by_equal x v (λ _ e. ap (is_in last.entry.members) e ∙ inside ∙ ap inside_in plane)
             (λ _ n. empty x n)
 
-        odd_here : odd (seen s.graph) (is_in last.entry.members) last.entry.vertex ≡ true
+        odd_here : in_odd_neighbourhood (seen s.graph) (is_in last.entry.members) last.entry.vertex ≡ true
         odd_here = last-XY (seen s.graph) last.before last.entry is_last (at_entry XY plane) last.entry.vertex
             (live (seen s.graph) (last.before ++ last.entry ∷ []) functions last.entry.vertex listed)
             ∙ eqb-self last.entry.vertex

@@ -5,8 +5,7 @@ use Rattle.std.proofs.lemmas.Option.{slice_get-get_or}
 use Rattle.std.proofs.Math.Seq.{take-suc}
 use Rattle.zx_model.specs.Bits.{xor, member}
 use Rattle.zx_model.proofs.BitLemmas.{xor-false}
-use Rattle.zx_calculus.specs.Graph.{End, Graph, end_vertices, in_order, different, WellFormed}
-use Rattle.zx_calculus.specs.Worked.{plain}
+use Rattle.zx_calculus.specs.Graph.{End, Graph, end_vertices, in_order, different, WellFormed, plain}
 use Rattle.zx_calculus.proofs.Ids.{by_equal, and-left, and-right, member-different}
 use Rattle.zx_calculus.proofs.Booleans.{and-false, and-true, or-true}
 use Rattle.gflow_laws.proofs.Lists.{member-append, is_in-one}

@@ -4,9 +4,8 @@ use Rattle.std.specs.Prelude.{slice_get}
 use Rattle.zx_model.specs.Bits.{member, one_if}
 use Rattle.zx_model.specs.Constants.{two}
 use Rattle.zx_model.proofs.Ring.{mul-one}
-use Rattle.zx_calculus.specs.Graph.{YZ, Vertex, plane_of, phase_of, end_vertices, is_XY, without, Live, WellFormed}
+use Rattle.zx_calculus.specs.Graph.{YZ, Vertex, plane_of, phase_of, end_vertices, is_XY, without, IsVertex, WellFormed, plain}
 use Rattle.zx_calculus.specs.Edits.{IsRemoval}
-use Rattle.zx_calculus.specs.Worked.{plain}
 use Rattle.zx_calculus.specs.Counts.{odd_phases, not_XY, XY_without_output}
 use Rattle.zx_calculus.proofs.Splitting.{distinct}
 use Rattle.zx_calculus.proofs.CountLemmas.{count, count_front}
@@ -53,7 +52,7 @@ pub record IsWithoutLast (s : Remainder) (v : ℕ) (t : Remainder) : Type 0 wher
   pub table : SameSets t.table (last_removed_table last.entry last.before)
 
 module _ {s t : Remainder} {v : ℕ} (a : IsWithoutLast s v t) where
-  there : Live s.graph v
+  there : IsVertex s.graph v
   there = YZ_live s.graph.vertices v a.plane
 
   alike : Alike (without_vertex (seen s.graph) v) (seen t.graph)

@@ -1,9 +1,8 @@
 -- The row of an output added to that of another one.
 use Rattle.std.proofs.Common.{◌≡◌, ◌≢◌, refl, sym, ◌∙◌, ap, ap₂, subst, ℕ, ◌&&◌, true, false, eqb, eqb-true, List, [], ◌∷◌}
 use Rattle.zx_model.specs.Bits.{xor, member}
-use Rattle.zx_calculus.specs.Graph.{Graph, joined, end_vertices, Live, WellFormed}
+use Rattle.zx_calculus.specs.Graph.{Graph, joined, end_vertices, IsVertex, WellFormed, plain}
 use Rattle.zx_calculus.specs.Toggles.{across, IsToggled}
-use Rattle.zx_calculus.specs.Worked.{plain}
 use Rattle.zx_calculus.proofs.Booleans.{and_comm}
 use Rattle.zx_calculus.proofs.Ids.{eqb_comm}
 use Rattle.gflow_laws.specs.Flow.{Correction, SameSets}
@@ -18,9 +17,9 @@ use Rattle.zx_extract.proofs.Places.{one_output}
 
 -- the set of an output's vertex has live ones
 pub one_live : (g : Graph) (t v : ℕ) (one : List ℕ) → WellFormed g → HasPlainOutput g t v → one ≡ v ∷ [] →
-    (p : ℕ) → member p one ≡ true → Live g p
+    (p : ℕ) → member p one ≡ true → IsVertex g p
 one_live g t v one wf at_t is p there =
-    subst (Live g) (sym (eqb-true p v (sym (ap (member p) is ∙ is_in-one v p) ∙ there)))
+    subst (IsVertex g) (sym (eqb-true p v (sym (ap (member p) is ∙ is_in-one v p) ∙ there)))
     (output_there g t (plain v) wf at_t)
 
 module _ (s : Remainder) (c t u v : ℕ) (r : IsReady s) (f : IsFrontier s.graph) (at_c : HasPlainOutput s.graph c u)

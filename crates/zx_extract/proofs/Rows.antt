@@ -4,8 +4,7 @@ use Rattle.std.specs.Prelude.{slice_get}
 use Rattle.std.proofs.lemmas.List.Elements.{All-cons, All-nil}
 use Rattle.std.proofs.lemmas.Bool.Decides.{nat_tests}
 use Rattle.zx_model.specs.Bits.{xor, member}
-use Rattle.zx_calculus.specs.Graph.{ids, kind_of, joined, end_vertices, WellFormed, Distinct}
-use Rattle.zx_calculus.specs.Worked.{plain}
+use Rattle.zx_calculus.specs.Graph.{ids, kind_of, joined, end_vertices, WellFormed, Distinct, plain}
 use Rattle.zx_calculus.proofs.Booleans.{xor-same, and_comm}
 use Rattle.zx_calculus.proofs.Ids.{by_equal, eqb-self}
 use Rattle.zx_calculus.proofs.Splitting.{no_loop}

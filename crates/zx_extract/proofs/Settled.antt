@@ -4,10 +4,9 @@ use Rattle.std.specs.Prelude.{slice_get}
 use Rattle.std.proofs.lemmas.Bool.{or_cases}
 use Rattle.std.proofs.lemmas.List.Elements.{All-cons, All-nil}
 use Rattle.zx_model.specs.Bits.{xor, member}
-use Rattle.zx_calculus.specs.Graph.{Vertex, Graph, ids, kind_of, plane_of, phase_of, joined, end_vertices, with_kinds, WellFormed}
+use Rattle.zx_calculus.specs.Graph.{Vertex, Graph, ids, kind_of, plane_of, phase_of, joined, end_vertices, with_kinds, WellFormed, plain}
 use Rattle.zx_calculus.specs.Turns.{in_plane}
 use Rattle.zx_calculus.specs.Edits.{is_pair}
-use Rattle.zx_calculus.specs.Worked.{plain}
 use Rattle.zx_calculus.proofs.Ids.{by_equal, and-left, and-right, eqb-self}
 use Rattle.zx_calculus.proofs.Edges.{joined_comm}
 use Rattle.zx_calculus.proofs.Vertices.{ids-with_kinds}

@@ -1,8 +1,7 @@
 -- Outputs that are settled one after the other.
 use Rattle.std.proofs.Common.{◌≡◌, ◌≢◌, refl, sym, ◌∙◌, ap, subst, ℕ, zero as nought, suc, ◌+◌, ◌-◌, ◌*◌, ◌/◌, ◌≤◌, ◌<◌, Bool, true, false, not, ◌||◌, eqb, eqb-true, ltb, ltb-true, lt-ltb, length, add-mul, mul-add, mul-suc, arith}
 use Rattle.std.specs.Prelude.{slice_get}
-use Rattle.zx_calculus.specs.Graph.{Graph, phase_of, joined}
-use Rattle.zx_calculus.specs.Worked.{plain}
+use Rattle.zx_calculus.specs.Graph.{Graph, phase_of, joined, plain}
 use Rattle.zx_calculus.proofs.Booleans.{or-true}
 use Rattle.zx_calculus.proofs.Ids.{by_test, by_equal}
 use Rattle.zx_calculus.proofs.Edges.{joined_comm}

@@ -4,8 +4,7 @@ use Rattle.std.specs.Prelude.{slice_get}
 use Rattle.std.proofs.lemmas.Option.{slice_get_within}
 use Rattle.zx_model.specs.Bits.{xor, member}
 use Rattle.zx_model.proofs.BitLemmas.{xor-false}
-use Rattle.zx_calculus.specs.Graph.{joined, end_vertices}
-use Rattle.zx_calculus.specs.Worked.{plain}
+use Rattle.zx_calculus.specs.Graph.{joined, end_vertices, plain}
 use Rattle.zx_calculus.proofs.Ids.{by_test, by_equal, and-left, and-right, eqb-self}
 use Rattle.zx_calculus.proofs.Edges.{joined_comm}
 use Rattle.circuit_laws.specs.Peeling.{HasPlainOutput}

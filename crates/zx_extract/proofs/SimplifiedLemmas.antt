@@ -1,6 +1,6 @@
 -- What extraction asks of a reduced graph, and how many gates it gives for one.
 use Rattle.std.proofs.Common.{◌≡◌, ◌≢◌, ◌≤◌, inl, inr, ℕ, ◌+◌, ◌-◌, ◌*◌, ◌/◌, length, sym, ap, ◌∙◌, subst, arith, mul-le-mul_left, div-le_self}
-use Rattle.zx_calculus.specs.Graph.{XY, XZ, YZ, Graph, plane_of, is_XY, Live, WellFormed}
+use Rattle.zx_calculus.specs.Graph.{XY, XZ, YZ, Graph, plane_of, is_XY, IsVertex, WellFormed}
 use Rattle.zx_calculus.specs.Counts.{XY_without_output, odd_phases, not_XY}
 use Rattle.zx_calculus.specs.Reduced.{IsReduced}
 use Rattle.zx_calculus.proofs.ReducedLemmas.{reduced_few}
@@ -9,7 +9,7 @@ use Rattle.zx_extract.specs.Extraction.{most_extracted_gates}
 use Rattle.zx_extract.specs.Simplified.{gate_bound}
 
 -- no vertex of a reduced graph is XZ: one that holds an end is XY, and the others are XY or YZ
-pub no_XZ : (g : Graph) → WellFormed g → IsReduced g → (v : ℕ) → Live g v → plane_of g v ≢ XZ
+pub no_XZ : (g : Graph) → WellFormed g → IsReduced g → (v : ℕ) → IsVertex g v → plane_of g v ≢ XZ
 no_XZ g w r v live is = elim (r.planes v live (interior_of g v w (ap is_XY is))) [
   | inl xy ↦ absurd (let h : XZ ≡ XY = sym is ∙ xy in cc)
   | inr yz ↦ absurd (let h : XZ ≡ YZ = sym is ∙ yz in cc)

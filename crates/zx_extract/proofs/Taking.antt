@@ -2,13 +2,12 @@
 use Rattle.std.proofs.Common.{◌≡◌, ◌≢◌, refl, sym, ◌∙◌, ap, ap₂, subst, le_of_eq, ℕ, ◌+◌, ◌-◌, ◌*◌, ◌≤◌, ◌<◌, true, cond, not, ◌&&◌, ne_eqb, true≢false, List, lt-ltb, length, mul-add, arith}
 use Rattle.std.specs.Prelude.{slice_get}
 use Rattle.zx_model.specs.Bits.{member}
-use Rattle.zx_calculus.specs.Graph.{Live, joined, kind_of, plane_of, end_vertices}
+use Rattle.zx_calculus.specs.Graph.{IsVertex, joined, kind_of, plane_of, end_vertices, plain}
 use Rattle.zx_calculus.specs.Graph as graph
 use Rattle.zx_calculus.specs.Graph.{is_XY}
 use Rattle.zx_calculus.specs.Counts.{not_XY}
 use Rattle.std.proofs.lemmas.List.Filters.{length-filter_both}
 use Rattle.zx_calculus.specs.Turns.{in_plane}
-use Rattle.zx_calculus.specs.Worked.{plain}
 use Rattle.zx_calculus.proofs.Ids.{and-left, and-right}
 use Rattle.open_graph.specs.Planes.{plane_named}
 use Rattle.open_graph.specs.declared.plane.Plane.{Plane}
@@ -156,7 +155,7 @@ pub named_YZ : (g : graph.Graph) (v : ℕ) {k : ℕ} {named : Plane} → in_plan
 named_YZ g v weight e = sym (ap (λ (kind : graph.Kind). kind.plane) weight) ∙ ap plane_named e
 
 -- no vertex is in the XZ plane
-pub named_XY : {s : Remainder} {k : ℕ} {named : Plane} (v : ℕ) → IsReady s → Live s.graph v →
+pub named_XY : {s : Remainder} {k : ℕ} {named : Plane} (v : ℕ) → IsReady s → IsVertex s.graph v →
     in_plane (plane_named named) k ≡ kind_of s.graph.vertices v → named ≢ YZ → plane_of s.graph v ≡ graph.XY
 named_XY {s} {named = named} v r live weight not_YZ =
     at named (plane_of s.graph v) (ap (λ (kind : graph.Kind). kind.plane) weight) not_YZ (r.given.planes v live)

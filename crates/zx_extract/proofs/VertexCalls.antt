@@ -2,10 +2,9 @@
 use Rattle.std.proofs.Common.{◌≡◌, refl, sym, ◌∙◌, ap, ap₂, subst, ℕ, Bool, true, false, not, ◌&&◌, ◌||◌, eqb, List, [], ◌∷◌, ◌++◌, length, set}
 use Rattle.std.specs.Prelude.{slice_get}
 use Rattle.zx_model.specs.Bits.{xor, member}
-use Rattle.zx_calculus.specs.Graph.{XY, YZ, Plane, Kind, Graph, is_XY, ids, kind_of, plane_of, joined, end_vertices, without, Live, Interior}
+use Rattle.zx_calculus.specs.Graph.{XY, YZ, Plane, Kind, Graph, is_XY, ids, kind_of, plane_of, joined, end_vertices, without, IsVertex, Interior, plain}
 use Rattle.zx_calculus.specs.Edits.{IsRemoval}
 use Rattle.zx_calculus.specs.Turns.{in_plane}
-use Rattle.zx_calculus.specs.Worked.{plain}
 use Rattle.zx_calculus.proofs.Booleans.{and-false}
 use Rattle.zx_calculus.proofs.Ids.{by_test}
 use Rattle.zx_calculus.proofs.Splitting.{interior_of}
@@ -46,7 +45,7 @@ next_of {s} {d} {v} {q} g last plane o = record {
 }
 
 module _ {s d : Remainder} {v q u : ℕ} (n : IsNext s d v q u) where
-  pub next_live : Live d.graph v
+  pub next_live : IsVertex d.graph v
   next_live = ap (λ vs. member v (ids vs)) n.alike.vertices ∙ last_live n.ready n.frontier n.last
 
   pub next_XY : plane_of d.graph v ≡ XY

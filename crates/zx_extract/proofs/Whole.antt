@@ -9,8 +9,8 @@ use Rattle.zx_model.specs.Scalar.{root_of_two_power, IsScaled}
 use Rattle.zx_model.proofs.Ring.{mul-one, one-mul}
 use Rattle.zx_model.proofs.Powers.{root_power-zero}
 use Rattle.zx_model.proofs.Scalars.{root_of_two_squared, root_of_two_power-add}
-use Rattle.zx_calculus.specs.Graph.{Graph, ids, joined, end_vertices, Live, WellFormed}
-use Rattle.zx_calculus.specs.Sum.{sum}
+use Rattle.zx_calculus.specs.Graph.{Graph, ids, joined, end_vertices, IsVertex, WellFormed}
+use Rattle.zx_calculus.specs.Sum.{graph_sum}
 use Rattle.zx_calculus.specs.Counts.{odd_phases, not_XY, XY_without_output}
 use Rattle.zx_calculus.proofs.Ids.{by_test}
 use Rattle.zx_calculus.proofs.Edges.{joined_comm}
@@ -57,11 +57,11 @@ line_wires s r f none ends = record {
       (λ out. absent p q out);
 }
   where
-    all : (v : ℕ) → Live s.graph v → (member v (end_vertices s.graph.inputs) ≡ true) ×
+    all : (v : ℕ) → IsVertex s.graph v → (member v (end_vertices s.graph.inputs) ≡ true) ×
         (member v (end_vertices s.graph.outputs) ≡ true)
     all = all_ends s.graph r.given.well_formed (subst (IsFlow s.graph) none r.given.flow) ends
 
-    at_place : (u : ℕ) → Live s.graph u → (p : ℕ) × HasPlainOutput s.graph p u
+    at_place : (u : ℕ) → IsVertex s.graph u → (p : ℕ) × HasPlainOutput s.graph p u
     at_place u live = place_of_output s.graph.outputs u r.plain (all u live).1
 
     absent : (p q : ℕ) → member p (ids s.graph.vertices) ≡ false → joined s.graph.edges p q ≡ false
@@ -217,7 +217,7 @@ twos (suc d) =
     ∙ ap₂ mul (ap (mul root_of_two) (mul-one root_of_two) ∙ root_of_two_squared) (twos d)
 
 pub exact_scaled : (d : ℕ) (g : Graph) (gates : List Gate) → HasExactMap d g gates →
-    IsScaled (length g.inputs) (length g.outputs) (sum g) (record { root2 = pos (2 * d); turn = 0 }) (amp gates)
+    IsScaled (length g.inputs) (length g.outputs) (graph_sum g) (record { root2 = pos (2 * d); turn = 0 }) (amp gates)
 exact_scaled d g gates e = λ x y p q.
-    one-mul (sum g x y) ∙ e.equal x y p q
+    one-mul (graph_sum g x y) ∙ e.equal x y p q
     ∙ ap (λ z. mul z (amp gates x y)) (sym (twos d) ∙ sym (mul-one (root_of_two_power (2 * d))) ∙ ap (mul (root_of_two_power (2 * d))) (sym root_power-zero))

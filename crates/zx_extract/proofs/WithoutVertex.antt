@@ -1,7 +1,7 @@
 -- What is left of a graph that loses a vertex.
 use Rattle.std.proofs.Common.{◌≡◌, ◌≢◌, sym, ◌∙◌, ap, ℕ, true, not, eq-eqb, filter, true≢false}
 use Rattle.zx_model.specs.Bits.{member}
-use Rattle.zx_calculus.specs.Graph.{XZ, Kind, Graph, ids, kind_of, plane_of, phase_of, different, without, Live}
+use Rattle.zx_calculus.specs.Graph.{XZ, Kind, Graph, ids, kind_of, plane_of, phase_of, different, without, IsVertex}
 use Rattle.zx_calculus.proofs.Ids.{and-left, and-right, member-filter}
 use Rattle.zx_calculus.proofs.Forms.{ids-without}
 use Rattle.zx_calculus.proofs.Vertices.{kind_of-without}
@@ -24,7 +24,7 @@ module _ (g h : Graph) (u : ℕ) (vertices : h.vertices ≡ without u g.vertices
   pub plane_left : (x : ℕ) → member x (filter (different u) (ids g.vertices)) ≡ true → plane_of g x ≡ plane_of h x
   plane_left x within = sym (ap (λ (k : Kind). k.plane) (kind_left x (stays x within)))
 
-  pub planes_left : ((x : ℕ) → Live g x → plane_of g x ≢ XZ) → (x : ℕ) → Live h x → plane_of h x ≢ XZ
+  pub planes_left : ((x : ℕ) → IsVertex g x → plane_of g x ≢ XZ) → (x : ℕ) → IsVertex h x → plane_of h x ≢ XZ
   planes_left planes x live e =
       let within : member x (filter (different u) (ids g.vertices)) ≡ true = ids_left x ∙ live in
       planes x (and-left _ _ (sym (member-filter (different u) (ids g.vertices) x) ∙ within)) (plane_left x within ∙ e)

@@ -1,8 +1,8 @@
 -- What the law of independent rows speaks of: sets of outputs, and their rows over the other vertices.
 use Rattle.std.specs.Prelude.{◌≡◌, ℕ, Bool, true, false}
 use Rattle.zx_model.specs.Bits.{member}
-use Rattle.zx_calculus.specs.Graph.{Graph, Live, end_vertices}
-use Rattle.gflow_laws.specs.Seen.{seen, odd}
+use Rattle.zx_calculus.specs.Graph.{Graph, IsVertex, end_vertices}
+use Rattle.gflow_laws.specs.Seen.{seen, in_odd_neighbourhood}
 
 -- each of the set is an output that is no input
 abbrev pub HasOutputsAlone : Graph → (ℕ → Bool) → Type 0
@@ -11,4 +11,5 @@ HasOutputsAlone g set =
 
 -- the rows of the set sum to zero: each vertex that is no output has an even number of neighbours in it
 abbrev pub SumsToZero : Graph → (ℕ → Bool) → Type 0
-SumsToZero g set = (v : ℕ) → Live g v → member v (end_vertices g.outputs) ≡ false → odd (seen g) set v ≡ false
+SumsToZero g set =
+    (v : ℕ) → IsVertex g v → member v (end_vertices g.outputs) ≡ false → in_odd_neighbourhood (seen g) set v ≡ false

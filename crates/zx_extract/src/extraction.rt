@@ -1,9 +1,9 @@
 //! The circuit of a graph with a flow.
 
 ghost use Rattle.std.specs.Prelude.{◌≡◌, ◌≢◌, ◌≤◌, ◌*◌, ℕ, pos, [], length, IfOk};
-ghost use Rattle.zx_calculus.specs.Graph.{plane_of, Live};
+ghost use Rattle.zx_calculus.specs.Graph.{plane_of, IsVertex};
 ghost use Rattle.zx_calculus.specs.Graph as zx;
-ghost use Rattle.zx_calculus.specs.Sum.{sum};
+ghost use Rattle.zx_calculus.specs.Sum.{graph_sum};
 ghost use Rattle.zx_calculus.specs.Counts.{odd_phases, not_XY, XY_without_output};
 ghost use Rattle.gflow_laws.specs.Flow.{IsFlow};
 ghost use Rattle.zx_gates.specs.Circuit.{most_qubits};
@@ -27,10 +27,10 @@ use zx_model::{Scalar, Sixteenth};
 /// scalar between the two: the graph's sum is so many times the circuit's map.
 pub fn extract(alloc: Global, g: OpenGraph, f: Flow) -> Result<ScaledCircuit, AllocError>
     requires flow { IsFlow g.graph f.flow }
-    requires planes { (v : ℕ) → Live g.graph v → plane_of g.graph v ≢ zx.XZ }
+    requires planes { (v : ℕ) → IsVertex g.graph v → plane_of g.graph v ≢ zx.XZ }
     requires ends { length g.graph.inputs ≡ length g.graph.outputs }
     requires few { length g.graph.outputs ≤ most_qubits }
-    ensures kept { IfOk result (λ made. Implements (length g.graph.outputs) (sum g.graph)
+    ensures kept { IfOk result (λ made. Implements (length g.graph.outputs) (graph_sum g.graph)
         (odd_phases g.graph) (2 * not_XY g.graph) made.gates made.scalar) }
     ensures few_gates { IfOk result (λ made. length made.gates.gates ≤
         most_extracted_gates (length g.graph.outputs) (XY_without_output g.graph) (not_XY g.graph)) }
@@ -43,7 +43,7 @@ impl Frontier {
     // Takes the graph apart, gate by gate, and answers the circuit of all gates.
     fn take_apart(&mut self) -> Result<ScaledCircuit, AllocError>
         requires flow { IsFlow self.old.graph.graph self.old.flow.flow }
-        requires planes { (v : ℕ) → Live self.old.graph.graph v →
+        requires planes { (v : ℕ) → IsVertex self.old.graph.graph v →
             plane_of self.old.graph.graph v ≢ zx.XZ }
         requires ends { length self.old.graph.graph.inputs ≡ length self.old.graph.graph.outputs }
         requires few { length self.old.graph.graph.outputs ≤ most_qubits }
@@ -63,7 +63,7 @@ impl Frontier {
     // Takes off all gates but the Hadamards of the inputs, and answers how often the sum is doubled.
     fn take_all(&mut self) -> Result<u64, AllocError>
         requires flow { IsFlow self.old.graph.graph self.old.flow.flow }
-        requires planes { (v : ℕ) → Live self.old.graph.graph v →
+        requires planes { (v : ℕ) → IsVertex self.old.graph.graph v →
             plane_of self.old.graph.graph v ≢ zx.XZ }
         requires ends { length self.old.graph.graph.inputs ≡ length self.old.graph.graph.outputs }
         requires few { length self.old.graph.graph.outputs ≤ most_qubits }

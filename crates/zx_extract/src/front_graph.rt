@@ -2,12 +2,11 @@
 
 ghost use Rattle.std.specs.Prelude.{◌≡◌, ◌≢◌, ◌<◌, ◌≤◌, ℕ, true, false, not, ◌&&◌, ◌∷◌, [], length, remove, slice_get, slice_set, Some, IfOk, OnOk};
 ghost use Rattle.zx_model.specs.Bits.{member};
-ghost use Rattle.zx_calculus.specs.Graph.{End as SeenEnd, kind_of, plane_of, joined, end_vertices, neighbours, with_kinds, is_interior, Live, Interior, WellFormed};
+ghost use Rattle.zx_calculus.specs.Graph.{End as SeenEnd, kind_of, plane_of, joined, end_vertices, neighbours, with_kinds, is_interior, IsVertex, Interior, WellFormed, plain};
 ghost use Rattle.zx_calculus.specs.Graph as zx;
 ghost use Rattle.zx_calculus.specs.Turns.{in_plane};
 ghost use Rattle.zx_calculus.specs.Edits.{IsToggle, IsRemoval, at_vertex};
 ghost use Rattle.zx_calculus.specs.Toggles.{IsToggled, across};
-ghost use Rattle.zx_calculus.specs.Worked.{plain};
 ghost use Rattle.open_graph.specs.Planes.{plane_named};
 ghost use Rattle.open_graph.specs.OpenGraph.{most_vertices_in_memory};
 ghost use Rattle.circuit_laws.specs.Peeling.{HasPlainOutput};
@@ -77,7 +76,7 @@ impl FrontGraph {
 
     // Whether a vertex has an input.
     pub(crate) fn has_input(&self, v: VertexId) -> bool
-        requires { Live self.now.graph v }
+        requires { IsVertex self.now.graph v }
         ensures { result ≡ member v (end_vertices self.now.graph.inputs) }
     {
         self.inner.input_at(v).is_some()
@@ -93,7 +92,7 @@ impl FrontGraph {
 
     // Plane and phase of a vertex.
     pub(crate) fn weight(&self, v: VertexId) -> (Plane, Sixteenth)
-        requires { Live self.now.graph v }
+        requires { IsVertex self.now.graph v }
         ensures value { in_plane (plane_named result.0) result.1 ≡ kind_of self.now.graph.vertices v }
         ensures valid { WellFormed self.now.graph }
     {
@@ -102,7 +101,7 @@ impl FrontGraph {
 
     // Gives a vertex another plane and phase.
     pub(crate) fn set_weight(&mut self, v: VertexId, plane: Plane, phase: Sixteenth)
-        requires live { Live self.old.graph v }
+        requires live { IsVertex self.old.graph v }
         requires plane { is_interior self.old.graph v ≡ false → plane_named plane ≡ zx.XY }
         ensures ok { self.new.graph ≡ record self.old.graph {
           vertices = with_kinds (at_vertex v (λ _. in_plane (plane_named plane) phase)) self.old.graph.vertices;
@@ -116,7 +115,7 @@ impl FrontGraph {
     pub(crate) fn set_output(&mut self, i: usize, end: End)
         requires same { (e : SeenEnd) × (slice_get self.old.graph.outputs i ≡ Some e) × (e.vertex ≡ end.vertex) }
         requires in_range { i < length self.old.graph.outputs }
-        requires live { Live self.old.graph end.vertex }
+        requires live { IsVertex self.old.graph end.vertex }
         requires plane { plane_of self.old.graph end.vertex ≡ zx.XY }
         requires free { member end.vertex (end_vertices (remove self.old.graph.outputs i)) ≡ false }
         ensures ok { self.new.graph ≡ record self.old.graph { outputs = slice_set self.old.graph.outputs i end } }
@@ -127,7 +126,7 @@ impl FrontGraph {
 
     // Whether the vertex u of an output has a neighbour v that is none.
     pub(crate) fn has(&self, u: VertexId, v: VertexId) -> bool
-        ensures { member u (end_vertices self.now.graph.outputs) ≡ true → Live self.now.graph v →
+        ensures { member u (end_vertices self.now.graph.outputs) ≡ true → IsVertex self.now.graph v →
             member v (end_vertices self.now.graph.outputs) ≡ false → result ≡ joined self.now.graph.edges v u }
     {
         self.rows.get(u).contains(v)
@@ -174,7 +173,7 @@ impl FrontGraph {
     // Gives the vertex u of an output the neighbours of v that aren't outputs, in place of its own, where no edge joins
     // outputs.
     pub(crate) fn replace_row(&mut self, v: VertexId, u: VertexId) -> Result<(), AllocError>
-        requires live { Live self.old.graph v }
+        requires live { IsVertex self.old.graph v }
         requires no_output { member v (end_vertices self.old.graph.outputs) ≡ false }
         requires u_output { member u (end_vertices self.old.graph.outputs) ≡ true }
         requires apart { AreOutputsApart self.old.graph }
@@ -192,7 +191,7 @@ impl FrontGraph {
         v: VertexId,
     ) -> Result<(), AllocError>
         requires output { HasPlainOutput self.old.graph t u }
-        requires live { Live self.old.graph v }
+        requires live { IsVertex self.old.graph v }
         requires plane { plane_of self.old.graph v ≡ zx.XY }
         requires no_output { member v (end_vertices self.old.graph.outputs) ≡ false }
         requires no_input { member u (end_vertices self.old.graph.inputs) ≡ false }
@@ -210,7 +209,7 @@ impl FrontGraph {
 
     // Takes away a vertex without ends.
     pub(crate) fn remove_vertex(&mut self, v: VertexId) -> Result<(), AllocError>
-        requires live { Live self.old.graph v }
+        requires live { IsVertex self.old.graph v }
         requires interior { Interior self.old.graph v }
         ensures { OnOk result (IsRemoval self.old.graph v self.new.graph) }
     {
@@ -243,7 +242,7 @@ fn put_row(rows: &mut VertexSets, u: VertexId, row: &VertexSet) -> Result<(), Al
 
 // The neighbours of a vertex that aren't outputs.
 fn inner_row(g: &OpenGraph, v: VertexId) -> Result<VertexSet, AllocError>
-    requires { Live g.now.graph v }
+    requires { IsVertex g.now.graph v }
     ensures { IfOk result (λ row. (w : ℕ) → member w row.ids ≡
         (joined g.now.graph.edges v w && not (member w (end_vertices g.now.graph.outputs)))) }
 {
@@ -268,7 +267,7 @@ fn without_ends(set: VertexSet, ends: &[End]) -> Result<VertexSet, AllocError>
 
 // Makes a vertex adjacent to the outputs whose rows have it, and to no others.
 fn meet_outputs(g: &mut OpenGraph, rows: &VertexSets, v: VertexId) -> Result<(), AllocError>
-    requires live { Live g.old.graph v }
+    requires live { IsVertex g.old.graph v }
     requires no_output { member v (end_vertices g.old.graph.outputs) ≡ false }
     ensures met { OnOk result
         (IsMet g.old.graph rows.now.lists v (end_vertices g.old.graph.outputs) g.new.graph) }

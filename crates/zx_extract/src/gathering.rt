@@ -2,7 +2,7 @@
 
 ghost use Rattle.std.specs.Prelude.{◌≡◌, ◌<◌, ℕ, true, false, not, ◌&&◌, ◌==◌, length, IfOk, IfNone, IfSome, OnOk};
 ghost use Rattle.zx_model.specs.Bits.{member, xor};
-ghost use Rattle.zx_calculus.specs.Graph.{end_vertices, joined, plane_of, Live, WellFormed};
+ghost use Rattle.zx_calculus.specs.Graph.{end_vertices, joined, plane_of, IsVertex, WellFormed};
 ghost use Rattle.zx_calculus.specs.Graph as zx;
 ghost use Rattle.circuit_laws.specs.Peeling.{HasPlainOutput, are_plain};
 ghost use Rattle.zx_extract.specs.Internal.FrontGraphs.{AreOutputsApart};
@@ -153,7 +153,7 @@ impl Frontier {
     // Gives the vertex of an output the neighbours of v that aren't outputs, in place of its own.
     fn replace_row(&mut self, v: VertexId, t: Qubit) -> Result<(), AllocError>
         requires plain { are_plain self.old.graph.graph.outputs ≡ true }
-        requires live { Live self.old.graph.graph v }
+        requires live { IsVertex self.old.graph.graph v }
         requires no_output { member v (end_vertices self.old.graph.graph.outputs) ≡ false }
         requires apart { AreOutputsApart self.old.graph.graph }
         requires on_wires { t < length self.old.graph.graph.outputs }

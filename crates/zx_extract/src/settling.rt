@@ -1,7 +1,7 @@
 //! Outputs that are settled: plain, of phase 0, and without edges among themselves.
 
 ghost use Rattle.std.specs.Prelude.{◌≡◌, ◌≢◌, ◌<◌, ◌≤◌, ◌+◌, ◌*◌, ◌-◌, ◌/◌, ℕ, length, OnOk};
-ghost use Rattle.zx_calculus.specs.Graph.{plane_of, Live};
+ghost use Rattle.zx_calculus.specs.Graph.{plane_of, IsVertex};
 ghost use Rattle.zx_calculus.specs.Graph as zx;
 ghost use Rattle.gflow_laws.specs.Flow.{IsFlow};
 ghost use Rattle.zx_gates.specs.Circuit.{most_qubits};
@@ -18,7 +18,7 @@ impl Frontier {
     // Takes off the Hadamards of all outputs.
     pub(crate) fn take_marks(&mut self) -> Result<(), AllocError>
         requires flow { IsFlow self.old.graph.graph self.old.flow.flow }
-        requires planes { (v : ℕ) → Live self.old.graph.graph v → plane_of self.old.graph.graph v ≢ zx.XZ }
+        requires planes { (v : ℕ) → IsVertex self.old.graph.graph v → plane_of self.old.graph.graph v ≢ zx.XZ }
         requires few { length self.old.graph.graph.outputs ≤ most_qubits }
         ensures leads { OnOk result (Leads (remainder_of self.old)
             (length self.old.graph.graph.outputs) 0 0 (remainder_of self.new)) }

@@ -2,7 +2,7 @@
 
 ghost use Rattle.std.specs.Prelude.{◌≡◌, ◌<◌, ℕ, true, false, length, IfOk, IfNone, IfSome, OnOk};
 ghost use Rattle.zx_model.specs.Bits.{member};
-ghost use Rattle.zx_calculus.specs.Graph.{joined, end_vertices, Live};
+ghost use Rattle.zx_calculus.specs.Graph.{joined, end_vertices, IsVertex};
 ghost use Rattle.circuit_laws.specs.Peeling.{HasPlainOutput};
 ghost use Rattle.zx_extract.specs.Internal.Frontiers.{remainder_of};
 ghost use Rattle.zx_extract.specs.Internal.Leading.{IsReady, IsFrontier};
@@ -19,7 +19,7 @@ impl Frontier {
     // The outputs whose vertices are adjacent to a vertex.
     pub(crate) fn legs(&self, v: VertexId) -> Result<Vec<Qubit>, AllocError>
         requires ready { IsReady (remainder_of self.now) }
-        requires live { Live self.now.graph.graph v }
+        requires live { IsVertex self.now.graph.graph v }
         requires inner { member v (end_vertices self.now.graph.graph.outputs) ≡ false }
         ensures { IfOk result (λ qubits. AreLegs self.now.graph.graph v qubits.items) }
     {
@@ -36,7 +36,7 @@ impl Frontier {
     // Whether an output is a leg without an input.
     fn is_spare_leg(&self, v: VertexId, q: Qubit) -> bool
         requires ready { IsReady (remainder_of self.now) }
-        requires live { Live self.now.graph.graph v }
+        requires live { IsVertex self.now.graph.graph v }
         requires inner { member v (end_vertices self.now.graph.graph.outputs) ≡ false }
         requires on_wires { q < length self.now.graph.graph.outputs }
         ensures yes { result ≡ true → IsSpareLeg self.now.graph.graph v q }
@@ -97,7 +97,7 @@ impl Frontier {
     // A leg without an input, and all legs as choices.
     fn some_leg(&self, v: VertexId, legs: &mut Choices) -> Option<Qubit>
         requires ready { IsReady (remainder_of self.now) }
-        requires live { Live self.now.graph.graph v }
+        requires live { IsVertex self.now.graph.graph v }
         requires inner { member v (end_vertices self.now.graph.graph.outputs) ≡ false }
         ensures some { IfSome result (λ z. IsSpareLeg self.now.graph.graph v z) }
         ensures none { IfNone result (HasNoSpareLeg self.now.graph.graph v) }
@@ -118,7 +118,7 @@ impl Frontier {
     // gadgets have the fewest legs, and of these one with the fewest neighbours.
     fn cheapest_leg(&self, v: VertexId, some: Qubit, legs: &Choices) -> Qubit
         requires ready { IsReady (remainder_of self.now) }
-        requires live { Live self.now.graph.graph v }
+        requires live { IsVertex self.now.graph.graph v }
         requires inner { member v (end_vertices self.now.graph.graph.outputs) ≡ false }
         requires some { IsSpareLeg self.now.graph.graph v some }
         ensures { IsSpareLeg self.now.graph.graph v result }
@@ -142,7 +142,7 @@ impl Frontier {
     // Of the legs without an input, the one that is to be left.
     fn spare_leg(&self, v: VertexId) -> Option<Qubit>
         requires ready { IsReady (remainder_of self.now) }
-        requires live { Live self.now.graph.graph v }
+        requires live { IsVertex self.now.graph.graph v }
         requires inner { member v (end_vertices self.now.graph.graph.outputs) ≡ false }
         ensures some { IfSome result (λ z. IsSpareLeg self.now.graph.graph v z) }
         ensures none { IfNone result (HasNoSpareLeg self.now.graph.graph v) }

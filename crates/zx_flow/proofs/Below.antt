@@ -5,10 +5,9 @@ use Rattle.zx_model.specs.Bits.{xor, member}
 use Rattle.zx_bits.specs.Sets.{IsBelow}
 use Rattle.zx_calculus.specs.Graph.{Graph, ids, end_vertices}
 use Rattle.zx_calculus.proofs.Ids.{and-left, and-right, by_test}
-use Rattle.gflow_laws.specs.Seen.{Seen, odd}
-use Rattle.gflow_laws.specs.Flow.{Correction, order_of, set_of, is_in, IsFlow, SameSets}
+use Rattle.gflow_laws.specs.Seen.{Seen, in_odd_neighbourhood}
+use Rattle.gflow_laws.specs.Flow.{Correction, order_of, set_of, is_in, IsFlow, SameSets, odd_in}
 use Rattle.gflow_laws.specs.Complements.{set_about, set_beside, complement_table}
-use Rattle.gflow_laws.specs.Correcting.{odd_in}
 use Rattle.gflow_laws.proofs.Complements.{is_in-set_about, is_in-set_beside}
 use Rattle.gflow_laws.proofs.Tables.{order_of-with_sets, set_of-with_sets, set_of-outside}
 use Rattle.zx_calculus.proofs.Splitting.{all_at}
@@ -67,5 +66,5 @@ complement_below s u t reach lt below t' same v w inside =
     of_listed =
         by_test (eqb v u)
         (λ b e. in_own (sym (ap (λ k. is_in (cond k own (set_beside s u own (set_of t v))) w) b) ∙ e))
-        (λ b e. in_beside (odd s (is_in (set_of t v)) u)
+        (λ b e. in_beside (in_odd_neighbourhood s (is_in (set_of t v)) u)
         (sym (is_in-set_beside s u own (set_of t v) w) ∙ sym (ap (λ k. is_in (cond k own (set_beside s u own (set_of t v))) w) b) ∙ e))

@@ -3,10 +3,9 @@ use Rattle.std.proofs.Common.{◌≡◌, refl, sym, ◌∙◌, ap, ℕ, Bool, tr
 use Rattle.zx_model.specs.Bits.{xor, member}
 use Rattle.zx_calculus.proofs.Booleans.{xor-false}
 use Rattle.zx_calculus.proofs.Ids.{by_equal, eqb-self}
-use Rattle.gflow_laws.specs.Seen.{Seen, odd}
-use Rattle.gflow_laws.specs.Flow.{Correction, order_of, set_of, is_in, SameSets}
+use Rattle.gflow_laws.specs.Seen.{Seen, in_odd_neighbourhood}
+use Rattle.gflow_laws.specs.Flow.{Correction, order_of, set_of, is_in, SameSets, odd_in}
 use Rattle.gflow_laws.specs.Complements.{complement_table}
-use Rattle.gflow_laws.specs.Correcting.{odd_in}
 use Rattle.gflow_laws.specs.Internal.Changes.{AreChanged, complement_change}
 use Rattle.gflow_laws.proofs.Lists.{is_in-one}
 use Rattle.gflow_laws.proofs.SetChanges.{changed_at, IsToggledAt-none}
@@ -35,7 +34,7 @@ own_stays_beside s u v own t is =
     changed_at (beside_change s u own) v (λ w. false) t t (IsToggledAt-none v t) (λ w. rw is (sym (xor-false (is_in (set_of t v) w))))
 
 pub even_stays : (s : Seen) (u v : ℕ) (own : List ℕ) (t : List Correction) → eqb v u ≡ false →
-    odd s (is_in (set_of t v)) u ≡ false → AreChanged (beside_change s u own) (v ∷ []) t t
+    in_odd_neighbourhood s (is_in (set_of t v)) u ≡ false → AreChanged (beside_change s u own) (v ∷ []) t t
 even_stays s u v own t other even =
     changed_at (beside_change s u own) v (λ w. false) t t (IsToggledAt-none v t)
     (λ w. rw (other, even) (sym (xor-false (is_in (set_of t v) w))))
@@ -68,7 +67,7 @@ beside_same s u own now done t t' same c = record {
         cond (member v done)
         (cond (eqb v u) (is_in (set_of t v) w)
         (cond (eqb v u) (xor (is_in (set_of t v) w) (odd_in (s.plane u) && eqb w u))
-        (cond (odd s (is_in (set_of t v)) u) (xor (is_in (set_of t v) w) (xor b (not (odd_in (s.plane u)) && eqb w u)))
+        (cond (in_odd_neighbourhood s (is_in (set_of t v)) u) (xor (is_in (set_of t v) w) (xor b (not (odd_in (s.plane u)) && eqb w u)))
         (is_in (set_of t v) w))))
         (is_in (set_of t v) w)
 
@@ -87,11 +86,11 @@ complement_last s u t t' t'' there c d =
 
     beside_then : ℕ → ℕ → Bool
     beside_then v w =
-        cond (odd s (sets v) u) (xor (sets v w) (xor (is_in (set_of t u) w) (not (odd_in (s.plane u)) && eqb w u))) (sets v w)
+        cond (in_odd_neighbourhood s (sets v) u) (xor (sets v w) (xor (is_in (set_of t u) w) (not (odd_in (s.plane u)) && eqb w u))) (sets v w)
 
     beside_now : ℕ → ℕ → Bool
     beside_now v w =
-        cond (odd s (is_in (set_of t' v)) u)
+        cond (in_odd_neighbourhood s (is_in (set_of t' v)) u)
         (xor (is_in (set_of t' v) w) (xor (is_in (set_of t u) w) (not (odd_in (s.plane u)) && eqb w u))) (is_in (set_of t' v) w)
 
     at : (v w : ℕ) → is_in (set_of t'' v) w ≡ cond (member v (order_of t)) (change v w) (sets v w)

@@ -2,10 +2,9 @@
 
 ghost use Rattle.std.specs.Prelude.{◌≡◌, ◌<◌, ℕ, true, List, [], ◌∷◌, IsOk, OnOk, OnErr};
 ghost use Rattle.zx_model.specs.Bits.{member};
-ghost use Rattle.gflow_laws.specs.Seen.{Seen, odd};
-ghost use Rattle.gflow_laws.specs.Flow.{order_of, set_of, is_in, SameSets};
+ghost use Rattle.gflow_laws.specs.Seen.{Seen, in_odd_neighbourhood};
+ghost use Rattle.gflow_laws.specs.Flow.{order_of, set_of, is_in, SameSets, odd_in};
 ghost use Rattle.gflow_laws.specs.Removals.{removal_table};
-ghost use Rattle.gflow_laws.specs.Correcting.{odd_in};
 ghost use Rattle.gflow_laws.specs.Internal.Changes.{AreChanged, complement_change};
 ghost use Rattle.zx_bits.specs.Sets.{IsBelow};
 ghost use Rattle.open_graph.specs.Rooms.{with_place, IsLeft};
@@ -31,7 +30,7 @@ impl Flow {
         requires u_there { member u (order_of self.old.flow) ≡ true }
         requires v_there { member v (order_of self.old.flow) ≡ true }
         ensures sets { OnOk result ((s : Seen) → changes ≡ odd_in (s.plane u) →
-            is_odd ≡ odd s (is_in (set_of self.old.flow v)) u → AreChanged
+            is_odd ≡ in_odd_neighbourhood s (is_in (set_of self.old.flow v)) u → AreChanged
             (beside_change s u (set_of self.old.flow u)) (v ∷ []) self.old.flow self.new.flow) }
         ensures has_room { v < self.old.room.reach → u < self.old.room.reach →
             IsBelow self.old.room.reach (set_of self.old.flow u) → IsOk result }

@@ -4,7 +4,7 @@ ghost use Rattle.std.specs.Prelude.{◌≡◌, ◌≢◌, ◌↔◌, ◌<◌, �
 ghost use Rattle.std.specs.Prelude.{IsOk, IfOk, IfNone, IfSome, OnOk, OnErr, ltb};
 ghost use Rattle.zx_model.specs.Bits.{member};
 ghost use Rattle.zx_calculus.specs.Graph.{in_order, Distinct, WellFormed};
-ghost use Rattle.gflow_laws.specs.Seen.{seen, odd};
+ghost use Rattle.gflow_laws.specs.Seen.{seen, in_odd_neighbourhood};
 ghost use Rattle.gflow_laws.specs.Flow.{order_of, set_of, is_in, IsFlow, SameSets};
 ghost use Rattle.gflow_laws.specs.Tables.{without_set};
 ghost use Rattle.zx_bits.specs.Sets.{IsBelow};
@@ -110,7 +110,7 @@ impl Flow {
     /// Whether a vertex w is adjacent to an odd number of members of the set of v.
     pub fn odd_has(&self, g: &OpenGraph, v: VertexId, w: VertexId) -> bool
         requires { member v (order_of self.now.flow) ≡ true }
-        ensures { result ≡ odd (seen g.now.graph) (is_in (set_of self.now.flow v)) w }
+        ensures { result ≡ in_odd_neighbourhood (seen g.now.graph) (is_in (set_of self.now.flow v)) w }
     {
         let set = self.corrections.set(v);
         g.is_live(w) && set.common_with(g.neighbour_set(w)) % 2 == 1

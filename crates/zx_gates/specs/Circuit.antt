@@ -36,8 +36,8 @@ pub record IsCircuit (c : Circuit) : Type 0 where
   pub on_qubits : All (IsGateOn c.qubits) c.gates
 
 -- fewer gates than this, so that each has a number of 32 bits
-abbrev pub gate_bound : ℕ
-gate_bound = 2 ^ 32
+abbrev pub gate_limit : ℕ
+gate_limit = 2 ^ 32
 
 abbrev pub circuit_of : ℕ → List Gate → Circuit
 circuit_of qubits gates = record { qubits = qubits; gates = gates }
@@ -46,7 +46,7 @@ circuit_of qubits gates = record { qubits = qubits; gates = gates }
 -- for each qubit there is one of so many links and one of so many rows of marks
 pub record HasRoom (c : Circuit) (places links rows : ℕ) : Type 0 where
   pub circuit : IsCircuit c
-  pub few_gates : length c.gates < gate_bound
+  pub few_gates : length c.gates < gate_limit
   pub enough : length c.gates ≤ places
   pub linked : 0 < length c.gates → c.qubits ≤ links
   pub marked : 0 < length c.gates → c.qubits ≤ rows

@@ -2,7 +2,7 @@
 
 ghost use Rattle.std.specs.Prelude.{◌≡◌, ◌<◌, length};
 ghost use Rattle.std.specs.List.{count_by};
-ghost use Rattle.zx_gates.specs.Circuit.{gate_bound, gate_odd_phases};
+ghost use Rattle.zx_gates.specs.Circuit.{gate_limit, gate_odd_phases};
 ghost use Rattle.zx_gates.specs.Counting.{is_two_qubit, is_h, is_phase, is_cz, is_cx, is_not};
 
 use crate::gate::Gate;
@@ -12,7 +12,7 @@ use crate::tally::Counts;
 /// Counts the gates of a circuit. It takes no memory.
 pub fn counts(g: &GateList) -> Counts
     ensures total { result.total ≡ length g.now.gates }
-    ensures few { result.total < gate_bound }
+    ensures few { result.total < gate_limit }
     ensures odd { result.odd ≡ gate_odd_phases g.now.gates }
     ensures two_qubit { result.two_qubit ≡ count_by is_two_qubit g.now.gates }
     ensures h { result.h ≡ count_by is_h g.now.gates }

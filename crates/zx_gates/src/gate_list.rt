@@ -2,7 +2,7 @@
 
 ghost use Rattle.std.specs.Prelude.{◌≡◌, ◌≤◌, ◌<◌, ◌+◌, ◌++◌, [], ◌∷◌, length, slice_set, take, drop};
 ghost use Rattle.std.specs.Prelude.{IfOk, OnOk, OnErr};
-ghost use Rattle.zx_gates.specs.Circuit.{Circuit, IsCircuit, IsOnQubits, HasRoom, gate_bound, most_qubits, circuit_of};
+ghost use Rattle.zx_gates.specs.Circuit.{Circuit, IsCircuit, IsOnQubits, HasRoom, gate_limit, most_qubits, circuit_of};
 
 use crate::gate::{Gate, Qubit};
 use std::alloc::{AllocError, Global};
@@ -107,7 +107,7 @@ impl GateList {
     pub fn gates(&self) -> &[Gate]
         ensures value { result.now ≡ self.now.gates }
         ensures valid { IsCircuit self.now }
-        ensures few { length self.now.gates < gate_bound }
+        ensures few { length self.now.gates < gate_limit }
     {
         &self.gates
     }

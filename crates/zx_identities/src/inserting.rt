@@ -3,7 +3,7 @@
 ghost use Rattle.std.specs.Prelude.{◌≡◌, ◌++◌, ◌*◌, true, IfOk, IfSome, OnOk};
 ghost use Rattle.std.specs.List.{All};
 ghost use Rattle.zx_model.specs.Scalar.{IsWithin, one_scalar, product_of_scalars, quotient_of_scalars};
-ghost use Rattle.zx_gates.specs.Circuit.{IsGateOn, gate_bound, gate_odd_phases};
+ghost use Rattle.zx_gates.specs.Circuit.{IsGateOn, gate_limit, gate_odd_phases};
 ghost use Rattle.zx_gates.specs.Maps.{amp};
 ghost use Rattle.zx_gates.specs.Passes.{Implements};
 ghost use Rattle.piece_laws.specs.Replacement.{AreScaled};
@@ -49,7 +49,7 @@ pub fn put_in(
         AreScaled circuit.now.qubits circuit.now.gates made.scalar made.gates.gates)) }
     ensures scalar { IfOk result (λ found. IfSome found (λ made.
         made.scalar ≡ quotient_of_scalars one_scalar (undone_scalar insertion.now.frame.gates))) }
-    ensures small { IfOk result (λ found. IfSome found (λ made. IsWithin (2 * gate_bound) made.scalar)) }
+    ensures small { IfOk result (λ found. IfSome found (λ made. IsWithin (2 * gate_limit) made.scalar)) }
 {
     if !fits(circuit, insertion) || !is_identity(alloc, &insertion.inner)? {
         return Ok(None);

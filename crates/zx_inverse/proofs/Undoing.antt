@@ -23,7 +23,7 @@ use Rattle.zx_gates.specs.declared.gate.Gate.TheVariants.{H, Phase, Cz, Cx, Not}
 use Rattle.zx_gates.proofs.MapLemmas.{amp-acts, acts-append}
 use Rattle.zx_gates.proofs.Multiples.{Multiple, act-factor, proportional_of_multiple}
 use Rattle.zx_gates.proofs.Scaling.{IsTimes}
-use Rattle.zx_peephole.specs.Tidy.{is_pair}
+use Rattle.zx_peephole.specs.Tidy.{cancels_or_merges}
 use Rattle.zx_peephole.specs.Internal.Merging.{merged, doublings}
 use Rattle.zx_peephole.proofs.PairLemmas.{pair_law}
 use Rattle.zx_inverse.specs.Inverse.{inverse_gate, inverse_of}
@@ -108,7 +108,7 @@ phases-cancel k below = omega arith
 both : (a b : Bool) → a ≡ true → b ≡ true → (a && b) ≡ true
 both a b e f = ap₂ (λ s t. s && t) e f
 
-is_pair-inverse : (gate : Gate) → is_pair gate (inverse_gate gate) ≡ true
+is_pair-inverse : (gate : Gate) → cancels_or_merges gate (inverse_gate gate) ≡ true
 is_pair-inverse (H q) = eq-eqb q q refl
 is_pair-inverse (Phase q k) = eq-eqb q q refl
 is_pair-inverse (Cz q r) = ap (λ b. b || (eqb q r && eqb r q)) (both (eqb q q) (eqb r r) (eq-eqb q q refl) (eq-eqb r r refl))

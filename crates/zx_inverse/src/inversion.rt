@@ -2,7 +2,7 @@
 
 ghost use Rattle.std.specs.Prelude.{◌≡◌, ◌++◌, ◌*◌, IfOk, OnOk};
 ghost use Rattle.zx_model.specs.Scalar.{IsWithin};
-ghost use Rattle.zx_gates.specs.Circuit.{IsGateOn, gate_bound};
+ghost use Rattle.zx_gates.specs.Circuit.{IsGateOn, gate_limit};
 ghost use Rattle.zx_inverse.specs.Inverse.{inverse_gate, inverse_of, undone_scalar};
 
 use std::alloc::{AllocError, Global};
@@ -54,7 +54,7 @@ fn undone(gate: Gate) -> Gate
 /// By which number a circuit followed by its inverse is the identity.
 pub fn undone_scalar(circuit: &GateList) -> Scalar
     ensures value { result ≡ undone_scalar circuit.now.gates }
-    ensures small { IsWithin (2 * gate_bound) result }
+    ensures small { IsWithin (2 * gate_limit) result }
 {
     Scalar {
         root2: 2 * counts(circuit).h as i64,

@@ -1,7 +1,7 @@
 -- Powers of two, and of the root: z is a sixteenth root of one, so exponents are phases.
 use Rattle.std.proofs.Common.{◌≡◌, ◌≢◌, ℕ, zero as nought, suc, ◌+◌, ◌-◌, ◌*◌, ◌/◌, ◌%◌, ◌≤◌, sym, ◌∙◌, ap, arith, refl, suc-add, suc-mul, zero-add, zero-mul, true}
 use Rattle.zx_model.specs.Cyclotomic.{zero_cyclotomic, eighth_root, add_cyclotomic, neg_cyclotomic, mul_cyclotomic}
-use Rattle.zx_model.specs.Number.{Number, zero, one, root, neg, mul, root_power}
+use Rattle.zx_model.specs.Number.{Number, zero, one, sixteenth_root, neg, mul, root_power}
 use Rattle.zx_model.specs.Phase.{turn, half_turn, sum_of_phases, opposite_phase}
 use Rattle.zx_model.specs.Constants.{two}
 use Rattle.zx_model.specs.Internal.Powers.{power_of_two}
@@ -17,17 +17,17 @@ pub root_power-zero : root_power 0 ≡ one
 unfolding root_power
 root_power-zero = refl
 
-pub root_power-suc : (k : ℕ) → root_power (suc k) ≡ mul root (root_power k)
+pub root_power-suc : (k : ℕ) → root_power (suc k) ≡ mul sixteenth_root (root_power k)
 unfolding root_power
 root_power-suc k = refl
 
-pub root_power-one : root_power 1 ≡ root
-root_power-one = root_power-suc 0 ∙ ap (mul root) root_power-zero ∙ Ring.mul-one root
+pub root_power-one : root_power 1 ≡ sixteenth_root
+root_power-one = root_power-suc 0 ∙ ap (mul sixteenth_root) root_power-zero ∙ Ring.mul-one sixteenth_root
 
 pub root_power-add : (j k : ℕ) → root_power (j + k) ≡ mul (root_power j) (root_power k)
 root_power-add nought k = ap root_power (zero-add k) ∙ sym (one-mul (root_power k)) ∙ ap (λ x. mul x (root_power k)) (sym root_power-zero)
 root_power-add (suc j) k =
-    ap root_power (suc-add j k) ∙ root_power-suc (j + k) ∙ ap (mul root) (root_power-add j k) ∙ sym (mul_assoc root (root_power j) (root_power k)) ∙ ap (λ x. mul x (root_power k)) (sym (root_power-suc j))
+    ap root_power (suc-add j k) ∙ root_power-suc (j + k) ∙ ap (mul sixteenth_root) (root_power-add j k) ∙ sym (mul_assoc sixteenth_root (root_power j) (root_power k)) ∙ ap (λ x. mul x (root_power k)) (sym (root_power-suc j))
 
 -- w, which is z*z
 pub root_power-two : root_power 2 ≡ record { plain = eighth_root; turned = zero_cyclotomic }

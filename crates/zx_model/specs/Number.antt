@@ -19,8 +19,8 @@ abbrev pub one : Number
 one = record { plain = one_cyclotomic; turned = zero_cyclotomic }
 
 -- z itself
-abbrev pub root : Number
-root = record { plain = zero_cyclotomic; turned = one_cyclotomic }
+abbrev pub sixteenth_root : Number
+sixteenth_root = record { plain = zero_cyclotomic; turned = one_cyclotomic }
 
 unfoldable pub add : Number → Number → Number
 add a b = record { plain = add_cyclotomic a.plain b.plain; turned = add_cyclotomic a.turned b.turned }
@@ -39,7 +39,7 @@ mul a b = record {
 -- z^k
 unfoldable pub root_power : ℕ → Number
 root_power nought = one
-root_power (suc k) = mul root (root_power k)
+root_power (suc k) = mul sixteenth_root (root_power k)
 
 -- (-1)^b
 abbrev pub sign : Bool → Number

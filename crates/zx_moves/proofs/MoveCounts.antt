@@ -5,7 +5,7 @@ use Rattle.zx_calculus.proofs.ReducedLemmas.{counts_within}
 use Rattle.zx_model.specs.Phase.{turn, is_odd, is_half_turns, is_quarter_turn}
 use Rattle.zx_model.specs.Bits.{member, one_if}
 use Rattle.zx_model.proofs.Phases.{odd_otherwise}
-use Rattle.zx_calculus.specs.Graph.{XY, XZ, YZ, Vertex, Graph, ids, end_vertices, is_XY, kind_of, plane_of, phase_of, Live, WellFormed, is_YZ, is_interior, is_XZ}
+use Rattle.zx_calculus.specs.Graph.{XY, XZ, YZ, Vertex, Graph, ids, end_vertices, is_XY, kind_of, plane_of, phase_of, IsVertex, WellFormed, is_YZ, is_interior, is_XZ}
 use Rattle.zx_calculus.specs.Complements.{IsLocalComplement}
 use Rattle.zx_calculus.specs.Deletions.{IsDelete}
 use Rattle.zx_calculus.specs.Pivots.{IsPivot}
@@ -302,7 +302,7 @@ AreMoves-few g (suc n) steps h w a =
 
 -- ---- where a graph begins
 -- graphs all of whose vertices are XY, as those of circuits
-pub not_XY-none : (g : Graph) → WellFormed g → ((v : ℕ) → Live g v → plane_of g v ≡ XY) → not_XY g ≡ 0
+pub not_XY-none : (g : Graph) → WellFormed g → ((v : ℕ) → IsVertex g v → plane_of g v ≡ XY) → not_XY g ≡ 0
 not_XY-none g w planes =
     count_same (λ p k. not (is_XY k.plane)) (λ p k. false) g.vertices (distinct g w)
     (λ p there. ap (λ plane. not (is_XY plane)) (planes p there))
@@ -312,7 +312,7 @@ not_XY-none g w planes =
     none [] = refl
     none (v ∷ vs) = none vs
 
-pub most_moves-translated : (g : Graph) → WellFormed g → ((v : ℕ) → Live g v → plane_of g v ≡ XY)
+pub most_moves-translated : (g : Graph) → WellFormed g → ((v : ℕ) → IsVertex g v → plane_of g v ≡ XY)
     → most_moves g ≤ 2 * length g.vertices
 most_moves-translated g w planes = within _ _ _ _ (counts_within g w) (not_XY-none g w planes)
   where
@@ -320,7 +320,7 @@ most_moves-translated g w planes = within _ _ _ _ (counts_within g w) (not_XY-no
     within e p o n f h = omega arith
 
 pub AreMoves-translated : (g : Graph) (n : ℕ) (steps : List calculus.Step) (h : Graph) → WellFormed g
-    → ((v : ℕ) → Live g v → plane_of g v ≡ XY) → AreMoves g n steps h → n ≤ 2 * length g.vertices
+    → ((v : ℕ) → IsVertex g v → plane_of g v ≡ XY) → AreMoves g n steps h → n ≤ 2 * length g.vertices
 AreMoves-translated g n steps h w planes a =
     within _ _ _ _ (AreMoves-few g n steps h w a) (most_moves-translated g w planes)
   where

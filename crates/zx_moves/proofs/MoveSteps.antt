@@ -3,7 +3,7 @@ use Rattle.std.proofs.Common.{◌≡◌, ◌≢◌, ◌⊎◌, inl, inr, refl, s
 use Rattle.zx_model.specs.Phase.{half_turn, opposite_phase, is_half_turns, IsHalfTurns, is_quarter_turn, IsQuarterTurn}
 use Rattle.zx_model.specs.Bits.{member}
 use Rattle.zx_model.proofs.Phases.{half_turns_from, quarter_turn_from}
-use Rattle.zx_calculus.specs.Graph.{Plane, XY, XZ, YZ, Kind, Graph, ids, end_vertices, is_XY, kind_of, plane_of, phase_of, joined, without, insert_vertex, Live, Interior, WellFormed, is_interior}
+use Rattle.zx_calculus.specs.Graph.{Plane, XY, XZ, YZ, Kind, Graph, ids, end_vertices, is_XY, kind_of, plane_of, phase_of, joined, without, insert_vertex, IsVertex, Interior, WellFormed, is_interior}
 use Rattle.zx_calculus.specs.Turns.{in_plane, half_turned, complemented, complemented_in, pivoted}
 use Rattle.zx_calculus.specs.Complements.{complement_kind, IsLocalComplement}
 use Rattle.zx_calculus.specs.Deletions.{delete_kind, IsDelete}
@@ -35,7 +35,7 @@ use Rattle.zx_moves.proofs.SearchLaws.{complement_allowed, pivot_allowed, lone_a
 use Rattle.zx_calculus.proofs.TwinTests.{twins_allowed}
 
 -- ---- side conditions
-delete_allowed : (g : Graph) (u : ℕ) (kind : Kind) → Live g u → kind_of g.vertices u ≡ kind
+delete_allowed : (g : Graph) (u : ℕ) (kind : Kind) → IsVertex g u → kind_of g.vertices u ≡ kind
     → kind.plane ≢ XY → IsHalfTurns kind.phase → allowed g (calculus.Delete u) ≡ true
 delete_allowed g u kind there same plane phase =
     deletable_to g u
@@ -67,7 +67,7 @@ complemented_phase YZ k n (inl e) = (YZ_apart YZ refl, inl (ap (λ i. (complemen
 complemented_phase YZ k n (inr e) = (YZ_apart YZ refl, inr (ap (λ i. (complemented_in YZ i).phase) e))
 
 -- ---- what each rewrite leaves of a vertex
-complement_live : (g : Graph) (u : ℕ) (h : Graph) (p : ℕ) → IsLocalComplement g u h → Live g p → Live h p
+complement_live : (g : Graph) (u : ℕ) (h : Graph) (p : ℕ) → IsLocalComplement g u h → IsVertex g p → IsVertex h p
 complement_live g u h p c there =
     ap (λ vs. member p (ids vs)) c.vertices
     ∙ ap (member p) (ids-with_kinds (complement_kind u (joined g.edges u)) g.vertices) ∙ there
@@ -85,12 +85,12 @@ delete_after_complement g u h plane phase c =
     delete_allowed h u (complemented (kind_of g.vertices u)) (complement_live g u h u c c.there)
     (complement_kind_of g u h c) gone.0 gone.1
 
-pivot_live : (g : Graph) (u v : ℕ) (h : Graph) (p : ℕ) → IsPivot g u v h → Live g p → Live h p
+pivot_live : (g : Graph) (u v : ℕ) (h : Graph) (p : ℕ) → IsPivot g u v h → IsVertex g p → IsVertex h p
 pivot_live g u v h p c there =
     ap (λ vs. member p (ids vs)) c.vertices
     ∙ ap (member p) (ids-with_kinds (pivot_kind u v (joined g.edges u) (joined g.edges v)) g.vertices) ∙ there
 
-pivot_kind_of : (g : Graph) (u v : ℕ) (h : Graph) (p : ℕ) → IsPivot g u v h → Live g p → (eqb p u || eqb p v) ≡ true
+pivot_kind_of : (g : Graph) (u v : ℕ) (h : Graph) (p : ℕ) → IsPivot g u v h → IsVertex g p → (eqb p u || eqb p v) ≡ true
     → kind_of h.vertices p ≡ pivoted (kind_of g.vertices p)
 pivot_kind_of g u v h p c there one =
     ap (λ vs. kind_of vs p) c.vertices
@@ -117,9 +117,9 @@ delete_after_pivot g u v h plane phase c =
 
 -- ---- the boundary move
 -- a deletion leaves another YZ vertex there, of the same phase or the opposite one
-module _ (g : Graph) (u : ℕ) (h : Graph) (b k : ℕ) (c : IsDelete g u h) (other : b ≢ u) (there : Live g b)
+module _ (g : Graph) (u : ℕ) (h : Graph) (b k : ℕ) (c : IsDelete g u h) (other : b ≢ u) (there : IsVertex g b)
     (kind : kind_of g.vertices b ≡ in_plane YZ k) where
-  still_live : Live h b
+  still_live : IsVertex h b
   still_live =
       ap (λ vs. member b (ids vs)) c.vertices
       ∙ ap (member b) (ids-with_kinds (delete_kind (phase_of g u) (joined g.edges u)) (without u g.vertices))
@@ -150,7 +150,7 @@ either_quarter j k (inl e) quarter = subst IsQuarterTurn (sym e) quarter
 either_quarter j k (inr e) quarter = subst IsQuarterTurn (sym e) (opposite_quarter k quarter)
 
 -- how b goes, a YZ vertex whose phase is `phase` or the opposite of it
-removal_allowed : (g : Graph) (b j phase : ℕ) → Live g b → is_interior g b ≡ true → kind_of g.vertices b ≡ in_plane YZ j
+removal_allowed : (g : Graph) (b j phase : ℕ) → IsVertex g b → is_interior g b ≡ true → kind_of g.vertices b ≡ in_plane YZ j
     → (j ≡ phase) ⊎ (j ≡ opposite_phase phase) → AreAllowed g (removal_of phase b)
 removal_allowed g b j phase there inside kind of_phase =
     by_phase (is_half_turns phase) (is_quarter_turn phase) refl refl
@@ -177,8 +177,8 @@ removal_allowed g b j phase there inside kind of_phase =
 -- an interior XY vertex u of half turns, and an XY neighbour b of this phase
 record Ready (g : Graph) (u b : ℕ) (phase : ℕ) : Type 0 where
   well_formed : WellFormed g
-  there : Live g u
-  there_too : Live g b
+  there : IsVertex g u
+  there_too : IsVertex g b
   interior : Interior g u
   plane : plane_of g u ≡ XY
   half : IsHalfTurns (phase_of g u)
@@ -195,7 +195,7 @@ rest_allowed g u b phase r no_input no_output = (
     delete_after_pivot g u b k r.plane r.half c,
     λ h d.
         let kind : kind_of k.vertices b ≡ in_plane YZ phase = pivoted_second g u b k c ∙ ap pivoted r.kind in
-        let live : Live k b = pivot_live g u b k b c r.there_too in
+        let live : IsVertex k b = pivot_live g u b k b c r.there_too in
         let left = left_as k u h b phase d apart live kind in
         removal_allowed h b left.0 phase (still_live k u h b phase d apart live kind) (inside k h c d) left.1 left.2,
   ),
@@ -214,13 +214,13 @@ apart_by : (t : ℕ → Bool) (u b : ℕ) → t u ≡ false → t b ≡ true →
 apart_by t u b e f same = true≢false (sym f ∙ ap t (sym same) ∙ e)
 
 old_there : (g h : Graph) (new p : ℕ) → h.vertices ≡ insert_vertex (spider_of_phase_zero new) g.vertices
-    → Live g p → Live h p
+    → IsVertex g p → IsVertex h p
 old_there g h new p vertices there =
     ap (λ vs. member p (ids vs)) vertices ∙ member-insert p (spider_of_phase_zero new) g.vertices
     ∙ ap (λ t. eqb p new || t) there ∙ or-true (eqb p new)
 
 old_kind : (g h : Graph) (new p : ℕ) → h.vertices ≡ insert_vertex (spider_of_phase_zero new) g.vertices
-    → member new (ids g.vertices) ≡ false → Live g p → kind_of h.vertices p ≡ kind_of g.vertices p
+    → member new (ids g.vertices) ≡ false → IsVertex g p → kind_of h.vertices p ≡ kind_of g.vertices p
 old_kind g h new p vertices fresh there =
     ap (λ vs. kind_of vs p) vertices
     ∙ kind_of-insert_other p (spider_of_phase_zero new) g.vertices (apart_of_member p new (ids g.vertices) there fresh)

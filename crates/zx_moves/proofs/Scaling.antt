@@ -4,7 +4,7 @@ use Rattle.zx_model.specs.Scalar.{IsScaled, IsWithin, one_scalar, product_of_sca
 use Rattle.zx_model.specs.declared.scalar.Scalar.{Scalar}
 use Rattle.zx_model.proofs.Scalars.{scaled_refl, scaled_trans, within_product, within_more}
 use Rattle.zx_calculus.specs.Graph.{Graph, WellFormed}
-use Rattle.zx_calculus.specs.Sum.{sum}
+use Rattle.zx_calculus.specs.Sum.{graph_sum}
 use Rattle.zx_calculus.specs.Steps.{Step, IsStep}
 use Rattle.zx_calculus.specs.StepScalars.{step_scalar}
 use Rattle.zx_calculus.proofs.Steps.{step_sum, inputs_kept, outputs_kept}
@@ -23,7 +23,7 @@ use Rattle.std.proofs.lemmas.List.{length-map}
 
 pub scales_none : (g : Graph) → Scales g 0 one_scalar g
 scales_none g = record {
-  sum = scaled_refl (length g.inputs) (length g.outputs) (sum g);
+  sum = scaled_refl (length g.inputs) (length g.outputs) (graph_sum g);
   small = omega arith;
   inputs = refl;
   outputs = refl;
@@ -31,8 +31,8 @@ scales_none g = record {
 
 pub scales_then : {g k h : Graph} {a b : ℕ} {s t : Scalar} → Scales g a s k → Scales k b t h → Scales g (a + b) (product_of_scalars s t) h
 scales_then {g} {k} {h} {a} {b} {s} {t} p q = record {
-  sum = scaled_trans (length g.inputs) (length g.outputs) (sum g) (sum k) (sum h) s t p.sum
-      (subst (λ m. IsScaled (length g.inputs) m (sum k) t (sum h)) p.outputs (subst (λ n. IsScaled n (length k.outputs) (sum k) t (sum h)) p.inputs q.sum));
+  sum = scaled_trans (length g.inputs) (length g.outputs) (graph_sum g) (graph_sum k) (graph_sum h) s t p.sum
+      (subst (λ m. IsScaled (length g.inputs) m (graph_sum k) t (graph_sum h)) p.outputs (subst (λ n. IsScaled n (length k.outputs) (graph_sum k) t (graph_sum h)) p.inputs q.sum));
   small = within_product a b s t p.small q.small;
   inputs = q.inputs ∙ p.inputs;
   outputs = q.outputs ∙ p.outputs;
@@ -49,7 +49,7 @@ scales_begin {g} {h} {s} start one same =
 -- a step has its own scalar
 pub scales_step : (g : Graph) (step : Step) (h : Graph) (s : Scalar) → WellFormed g → IsStep g step h → s ≡ step_scalar g step → Scales g 2 s h
 scales_step g step h s w done is = record {
-  sum = subst (λ t. IsScaled (length g.inputs) (length g.outputs) (sum g) t (sum h)) (sym is) (step_scaled g step h w (λ x y. step_sum g step h x y w done));
+  sum = subst (λ t. IsScaled (length g.inputs) (length g.outputs) (graph_sum g) t (graph_sum h)) (sym is) (step_scaled g step h w (λ x y. step_sum g step h x y w done));
   small = subst (IsWithin 2) (sym is) (step_within g step);
   inputs = inputs_kept g step h done;
   outputs = outputs_kept g step h done;

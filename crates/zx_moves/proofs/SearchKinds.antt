@@ -1,6 +1,6 @@
 -- Moves by their kinds, and kinds in their order.
 use Rattle.std.proofs.Common.{Option, Some, None, IfSome, IfNone, ◌≡◌, refl, ◌∙◌, ap, subst, ℕ, ◌<◌, List, slice_get, lit<, arith}
-use Rattle.zx_calculus.specs.Graph.{Graph, Live}
+use Rattle.zx_calculus.specs.Graph.{Graph, IsVertex}
 use Rattle.zx_calculus.specs.Moves.{IsStuck}
 use Rattle.zx_moves.specs.declared.moves.Move.{Move}
 use Rattle.zx_moves.specs.declared.moves.Move.TheVariants as moves
@@ -23,7 +23,7 @@ stands_once i j k e f = grind arith
 
 -- of the first n kinds none applies
 abbrev pub NoneAnywhere : Graph → ℕ → Type 0
-NoneAnywhere g n = (u : ℕ) → Live g u → NoneBefore g n u
+NoneAnywhere g n = (u : ℕ) → IsVertex g u → NoneBefore g n u
 
 none_applies : (g : Graph) (n : ℕ) → NoneAnywhere g n → (m : Move) (i : ℕ) → i < n → slice_get KINDS i ≡ Some (kind_of m)
     → ¬ AppliesAt g m

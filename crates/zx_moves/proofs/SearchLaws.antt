@@ -1,7 +1,7 @@
 -- Which rewrites are allowed where a move applies.
 use Rattle.std.proofs.Common.{◌≡◌, ◌≢◌, refl, ap, ℕ, true, false, ◌&&◌, List, [], ◌∷◌, length}
 use Rattle.zx_model.specs.Bits.{member}
-use Rattle.zx_calculus.specs.Graph.{Plane, XY, XZ, YZ, Graph, ids, is_XY, plane_of, joined, neighbours, Live, WellFormed, is_YZ, is_interior}
+use Rattle.zx_calculus.specs.Graph.{Plane, XY, XZ, YZ, Graph, ids, is_XY, plane_of, joined, neighbours, IsVertex, WellFormed, is_YZ, is_interior}
 use Rattle.zx_calculus.specs.Steps.{allowed}
 use Rattle.zx_calculus.specs.Gadgets.{is_one_XY, is_empty}
 use Rattle.zx_calculus.specs.Moves.{IsInXZ, IsGadgetPair, IsGadgetOf, AreTwins}
@@ -10,7 +10,7 @@ use Rattle.zx_calculus.proofs.Ids.{by_test, member-here}
 use Rattle.zx_calculus.proofs.Kept.{both}
 use Rattle.zx_moves.proofs.SearchTests.{live_near, joined_near, near_joined}
 
-pub complement_allowed : (g : Graph) (u : ℕ) → Live g u → is_interior g u ≡ true → allowed g (calculus.LocalComplement u) ≡ true
+pub complement_allowed : (g : Graph) (u : ℕ) → IsVertex g u → is_interior g u ≡ true → allowed g (calculus.LocalComplement u) ≡ true
 complement_allowed g u there i = both (member u (ids g.vertices)) (is_interior g u) there i
 
 empty_of : (xs : List ℕ) → length xs ≡ 0 → is_empty xs ≡ true
@@ -48,7 +48,7 @@ apart_where g u v a none =
     (λ f. f)
 
 module _ (g : Graph) (w : WellFormed g) where
-  pub pivot_allowed : (u v : ℕ) → Live g u → is_interior g u ≡ true → is_interior g v ≡ true → joined g.edges u v ≡ true
+  pub pivot_allowed : (u v : ℕ) → IsVertex g u → is_interior g u ≡ true → is_interior g v ≡ true → joined g.edges u v ≡ true
       → allowed g (calculus.Pivot u v) ≡ true
   pivot_allowed u v there i j e =
       both (member u (ids g.vertices) && member v (ids g.vertices)) ((is_interior g u && is_interior g v) && joined g.edges u v)

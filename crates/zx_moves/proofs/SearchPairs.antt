@@ -9,7 +9,7 @@ use Rattle.std.proofs.lemmas.Bool.{eqb-false}
 use Rattle.zx_model.specs.Bits.{member}
 use Rattle.std.specs.Prelude.{◌↔◌}
 use Rattle.zx_calculus.proofs.Extensionality.{neighbours_ext}
-use Rattle.zx_calculus.specs.Graph.{in_order, YZ, Graph, ids, plane_of, joined, neighbours, Live, Interior, WellFormed, is_YZ, is_interior}
+use Rattle.zx_calculus.specs.Graph.{in_order, YZ, Graph, ids, plane_of, joined, neighbours, IsVertex, Interior, WellFormed, is_YZ, is_interior}
 use Rattle.zx_calculus.specs.Complements.{may_complement}
 use Rattle.zx_calculus.specs.Gadgets.{is_gadget}
 use Rattle.zx_calculus.specs.Moves.{IsHalfSpider, IsInnerPivot, IsBoundaryPivot, IsGadgetPair, IsGadgetOf, AreTwins}
@@ -33,7 +33,7 @@ first-none [] e = refl
 first-none (x ∷ xs) e = cc
 
 module _ (g : Graph) (w : WellFormed g) (u : ℕ) where
-  pub near_live : (v : ℕ) → slice_get (neighbours g u) 0 ≡ Some v → Live g v
+  pub near_live : (v : ℕ) → slice_get (neighbours g u) 0 ≡ Some v → IsVertex g v
   near_live v e = live_near g u v (first-member (neighbours g u) v e)
 
   -- a neighbour without ends passes the test
@@ -43,10 +43,10 @@ module _ (g : Graph) (w : WellFormed g) (u : ℕ) where
   inner_from : (v : ℕ) → may_complement g v ≡ true → Interior g v
   inner_from v h = interior_from g v (and-right (member v (ids g.vertices)) (is_interior g v) h)
 
-  gadget_to : (v : ℕ) → Live g v → plane_of g v ≡ YZ → is_gadget g v ≡ true
+  gadget_to : (v : ℕ) → IsVertex g v → plane_of g v ≡ YZ → is_gadget g v ≡ true
   gadget_to v there plane = both (member v (ids g.vertices)) (is_YZ (plane_of g v)) there (ap is_YZ plane)
 
-  pub gadget_live : (v : ℕ) → is_gadget g v ≡ true → Live g v
+  pub gadget_live : (v : ℕ) → is_gadget g v ≡ true → IsVertex g v
   gadget_live v h = and-left (member v (ids g.vertices)) (is_YZ (plane_of g v)) h
 
   gadget_YZ : (v : ℕ) → is_gadget g v ≡ true → plane_of g v ≡ YZ

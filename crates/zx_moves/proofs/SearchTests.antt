@@ -2,7 +2,7 @@
 use Rattle.std.proofs.Common.{Option, Some, None, ◌≡◌, ◌⊎◌, inl, inr, refl, sym, ◌∙◌, ap, subst, ℕ, Bool, true, false, ◌||◌, eqb, List, [], ◌∷◌, ◌++◌, IfSome, IfNone, is_some, true≢false, eqb-true}
 use Rattle.std.specs.List.{find}
 use Rattle.zx_model.specs.Bits.{member}
-use Rattle.zx_calculus.specs.Graph.{Graph, ids, joined, neighbours, Live, WellFormed}
+use Rattle.zx_calculus.specs.Graph.{Graph, ids, joined, neighbours, IsVertex, WellFormed}
 use Rattle.zx_calculus.proofs.Booleans.{or-true}
 use Rattle.zx_calculus.proofs.Ids.{by_test, and-left, eqb-self, member-filter}
 use Rattle.zx_calculus.proofs.Programs.{neighbour}
@@ -22,7 +22,7 @@ none_from None Q h e = h
 none_from (Some v) Q h e = absurd (true≢false e)
 
 -- ---- neighbours
-pub live_near : (g : Graph) (u v : ℕ) → member v (neighbours g u) ≡ true → Live g v
+pub live_near : (g : Graph) (u v : ℕ) → member v (neighbours g u) ≡ true → IsVertex g v
 live_near g u v h = and-left (member v (ids g.vertices)) (joined g.edges u v) (sym (member-filter (joined g.edges u) (ids g.vertices) v) ∙ h)
 
 pub joined_near : (g : Graph) → WellFormed g → (u v : ℕ) → member v (neighbours g u) ≡ true → joined g.edges u v ≡ true

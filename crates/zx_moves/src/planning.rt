@@ -1,7 +1,7 @@
 //! The steps of a move, from the graph before it.
 
 ghost use Rattle.std.specs.Prelude.{◌≤◌, ◌+◌, [], ◌∷◌, IsOk, OnOk};
-ghost use Rattle.zx_calculus.specs.Graph.{Live, WellFormed};
+ghost use Rattle.zx_calculus.specs.Graph.{IsVertex, WellFormed};
 ghost use Rattle.graph_rewrites.specs.Steps.{step_named};
 ghost use Rattle.zx_moves.specs.Search.{AppliesAt};
 ghost use Rattle.zx_moves.specs.Moving.{steps_of, splits_of, removal_of, AddsSteps};
@@ -62,7 +62,7 @@ fn add_boundary_steps(
     u: VertexId,
     b: VertexId,
 ) -> Result<(), AllocError>
-    requires { Live g.now.graph b }
+    requires { IsVertex g.now.graph b }
     ensures added { OnOk result (AddsSteps steps.old.steps steps.new.steps
         (steps_of g.now.graph (moves.BoundaryPivot u b))) }
     ensures has_room { 6 ≤ steps.old.spare → IsOk result }
@@ -77,7 +77,7 @@ fn add_boundary_steps(
 
 // Adds the splits of the ends of b, of its input before its output.
 fn add_splits(steps: &mut Trace, g: &OpenGraph, b: VertexId) -> Result<(), AllocError>
-    requires { Live g.now.graph b }
+    requires { IsVertex g.now.graph b }
     ensures added { OnOk result
         (AddsSteps steps.old.steps steps.new.steps (splits_of g.now.graph b)) }
     ensures has_room { 2 ≤ steps.old.spare → IsOk result }

@@ -5,7 +5,7 @@ ghost use Rattle.std.specs.Int.{bit_at};
 ghost use Rattle.std.specs.List.{find};
 ghost use Rattle.std.specs.Cmp.Lexicographic.{pointwise};
 ghost use Rattle.zx_model.specs.Bits.{member};
-ghost use Rattle.zx_calculus.specs.Graph.{WellFormed, Live, neighbours};
+ghost use Rattle.zx_calculus.specs.Graph.{WellFormed, IsVertex, neighbours};
 ghost use Rattle.zx_calculus.specs.Complements.{may_complement};
 ghost use Rattle.zx_calculus.specs.Gadgets.{is_gadget};
 ghost use Rattle.zx_calculus.specs.Moves.{IsQuarterGadget, IsInXZ, IsQuarterSpider, IsHalfSpider, IsBoundaryPivot, IsGadgetOf, AreTwins, IsStuck};
@@ -49,7 +49,7 @@ pub fn next_move(g: &OpenGraph) -> Option<Move>
 // Of the kinds before a limit the first with a move at a vertex: its place, and the move.
 fn first_at(g: &OpenGraph, u: VertexId, limit: usize) -> Option<(usize, Move)>
     requires valid { WellFormed g.now.graph }
-    requires live { Live g.now.graph u }
+    requires live { IsVertex g.now.graph u }
     requires few { limit ≤ 10 }
     ensures found { IfSome result (λ best. IsMoveAt g.now.graph best.0 best.1) }
     ensures earlier { IfSome result (λ best. best.0 < limit) }
@@ -69,7 +69,7 @@ fn first_at(g: &OpenGraph, u: VertexId, limit: usize) -> Option<(usize, Move)>
 
 // Whether a vertex is XY and of an odd phase. No move begins there, and most vertices are such.
 fn is_settled(g: &OpenGraph, u: VertexId) -> bool
-    requires { Live g.now.graph u }
+    requires { IsVertex g.now.graph u }
     ensures { IsTrue result ↔ IsSettled g.now.graph u }
 {
     let (plane, phase) = g.weight(u);
@@ -79,7 +79,7 @@ fn is_settled(g: &OpenGraph, u: VertexId) -> bool
 // Whether a move of this kind may begin at a vertex, by the vertex alone.
 fn may_begin(g: &OpenGraph, u: VertexId, kind: Kind) -> bool
     requires valid { WellFormed g.now.graph }
-    requires live { Live g.now.graph u }
+    requires live { IsVertex g.now.graph u }
     ensures { IsTrue result ↔ MayBegin g.now.graph kind u }
 {
     match kind {
@@ -98,7 +98,7 @@ fn may_begin(g: &OpenGraph, u: VertexId, kind: Kind) -> bool
 // ends the one that costs least.
 fn move_at(g: &OpenGraph, u: VertexId, kind: Kind) -> Option<Move>
     requires valid { WellFormed g.now.graph }
-    requires live { Live g.now.graph u }
+    requires live { IsVertex g.now.graph u }
     ensures found { IfSome result (IsMoveOf g.now.graph kind) }
     ensures none { IfNone result (NoneAt g.now.graph kind u) }
 {
@@ -121,7 +121,7 @@ fn move_at(g: &OpenGraph, u: VertexId, kind: Kind) -> Option<Move>
 
 // Of the neighbours without ends the one whose pivot with u costs least.
 fn inner_neighbour(g: &OpenGraph, u: VertexId) -> Option<VertexId>
-    requires { Live g.now.graph u }
+    requires { IsVertex g.now.graph u }
     ensures found { IfSome result (λ v.
         (member v (neighbours g.now.graph u) ≡ true) × (may_complement g.now.graph v ≡ true)) }
     ensures none { IfNone result ((v : ℕ) → member v (neighbours g.now.graph u) ≡ true →
@@ -156,7 +156,7 @@ fn better_of(
     least: usize,
     v: VertexId,
 ) -> (Option<VertexId>, usize)
-    requires { Live g.now.graph u }
+    requires { IsVertex g.now.graph u }
     ensures found { IfSome result.0 (λ w.
         ((w ≡ v) × (may_complement g.now.graph v ≡ true)) ⊎ (best ≡ Some w)) }
     ensures none { IfNone result.0 ((best ≡ None) × (may_complement g.now.graph v ≡ false)) }
@@ -176,8 +176,8 @@ fn better_of(
 /// edges there are more once it is made and u deleted. Where there are too many pairs to count edges,
 /// it is above all costs that are counted, and rises with the neighbours of v.
 pub fn pivot_cost(g: &OpenGraph, u: VertexId, v: VertexId) -> usize
-    requires u_live { Live g.now.graph u }
-    requires v_live { Live g.now.graph v }
+    requires u_live { IsVertex g.now.graph u }
+    requires v_live { IsVertex g.now.graph v }
 {
     // How many other neighbours each has. Once u is deleted, v has those of u, and as many edges are
     // gone as v had other neighbours.
@@ -200,8 +200,8 @@ pub fn pivot_cost(g: &OpenGraph, u: VertexId, v: VertexId) -> usize
 // How many of the pairs are of two common neighbours, or of one with itself: a pivot joins none of
 // these.
 fn pairs_in_common(g: &OpenGraph, u: VertexId, v: VertexId) -> usize
-    requires u_live { Live g.now.graph u }
-    requires v_live { Live g.now.graph v }
+    requires u_live { IsVertex g.now.graph u }
+    requires v_live { IsVertex g.now.graph v }
 {
     let common = common_neighbours(g, u, v);
     common.saturating_mul(common)
@@ -211,8 +211,8 @@ fn pairs_in_common(g: &OpenGraph, u: VertexId, v: VertexId) -> usize
 // joins the other such pairs. Edges to u are counted too, as many for each v, and those between two
 // common neighbours twice.
 fn edges_across(g: &OpenGraph, u: VertexId, v: VertexId) -> usize
-    requires u_live { Live g.now.graph u }
-    requires v_live { Live g.now.graph v }
+    requires u_live { IsVertex g.now.graph u }
+    requires v_live { IsVertex g.now.graph v }
 {
     let mut edges: usize = 0;
     for p in g.neighbours(u) {
@@ -225,21 +225,21 @@ fn edges_across(g: &OpenGraph, u: VertexId, v: VertexId) -> usize
 
 // How many neighbours two vertices have in common.
 fn common_neighbours(g: &OpenGraph, p: VertexId, v: VertexId) -> usize
-    requires p_live { Live g.now.graph p }
-    requires v_live { Live g.now.graph v }
+    requires p_live { IsVertex g.now.graph p }
+    requires v_live { IsVertex g.now.graph v }
 {
     g.neighbour_set(p).common_with(g.neighbour_set(v))
 }
 
 fn first_neighbour(g: &OpenGraph, u: VertexId) -> Option<VertexId>
-    requires { Live g.now.graph u }
+    requires { IsVertex g.now.graph u }
     ensures { result ≡ slice_get (neighbours g.now.graph u) 0 }
 {
     g.neighbours(u).next()
 }
 
 fn gadget_beside(g: &OpenGraph, u: VertexId) -> Option<VertexId>
-    requires { Live g.now.graph u }
+    requires { IsVertex g.now.graph u }
     ensures { result ≡ find (is_gadget g.now.graph) (neighbours g.now.graph u) }
 {
     g.neighbours(u).find(|v| is_gadget(g, *v))
@@ -258,8 +258,8 @@ fn twin_of(g: &OpenGraph, u: VertexId) -> Option<VertexId>
 
 // The first of a vertex's neighbours that is a twin of u.
 fn twin_beside(g: &OpenGraph, u: VertexId, near: VertexId) -> Option<VertexId>
-    requires live { Live g.now.graph u }
-    requires near { Live g.now.graph near }
+    requires live { IsVertex g.now.graph u }
+    requires near { IsVertex g.now.graph near }
     ensures { result ≡ find (is_twin g.now.graph u) (neighbours g.now.graph near) }
 {
     // The index of the word that is told. Before the first, no vertex is left out.
@@ -279,7 +279,7 @@ fn twin_beside(g: &OpenGraph, u: VertexId, near: VertexId) -> Option<VertexId>
 // Of the 64 vertices from `64 * next` on, those beside each neighbour of u, which are told already where `next` is the
 // index of the word that is told.
 fn beside_all_at(g: &OpenGraph, u: VertexId, next: usize, index: usize, told: u64) -> u64
-    requires live { Live g.now.graph u }
+    requires live { IsVertex g.now.graph u }
     requires told { TellsTwins g.now.graph u index told }
     ensures { TellsTwins g.now.graph u next result }
 {
@@ -292,7 +292,7 @@ fn beside_all_at(g: &OpenGraph, u: VertexId, next: usize, index: usize, told: u6
 
 // Of the 64 vertices from `64 * index` on, those beside each neighbour of u, as the bits of a word.
 fn beside_all(g: &OpenGraph, u: VertexId, index: usize) -> u64
-    requires { Live g.now.graph u }
+    requires { IsVertex g.now.graph u }
     ensures { TellsTwins g.now.graph u index result }
 {
     let mut beside = u64::MAX;
@@ -306,7 +306,7 @@ fn beside_all(g: &OpenGraph, u: VertexId, index: usize) -> u64
 }
 
 fn is_quarter_gadget(g: &OpenGraph, u: VertexId) -> bool
-    requires { Live g.now.graph u }
+    requires { IsVertex g.now.graph u }
     ensures { (result ≡ true) ↔ IsQuarterGadget g.now.graph u }
 {
     let (plane, phase) = g.weight(u);
@@ -314,7 +314,7 @@ fn is_quarter_gadget(g: &OpenGraph, u: VertexId) -> bool
 }
 
 fn is_in_xz(g: &OpenGraph, u: VertexId) -> bool
-    requires { Live g.now.graph u }
+    requires { IsVertex g.now.graph u }
     ensures { (result ≡ true) ↔ IsInXZ g.now.graph u }
 {
     let (plane, _) = g.weight(u);
@@ -322,7 +322,7 @@ fn is_in_xz(g: &OpenGraph, u: VertexId) -> bool
 }
 
 fn is_quarter_spider(g: &OpenGraph, u: VertexId) -> bool
-    requires { Live g.now.graph u }
+    requires { IsVertex g.now.graph u }
     ensures { (result ≡ true) ↔ IsQuarterSpider g.now.graph u }
 {
     let (plane, phase) = g.weight(u);
@@ -330,7 +330,7 @@ fn is_quarter_spider(g: &OpenGraph, u: VertexId) -> bool
 }
 
 fn is_half_spider(g: &OpenGraph, u: VertexId) -> bool
-    requires { Live g.now.graph u }
+    requires { IsVertex g.now.graph u }
     ensures { (result ≡ true) ↔ IsHalfSpider g.now.graph u }
 {
     let (plane, phase) = g.weight(u);
@@ -338,7 +338,7 @@ fn is_half_spider(g: &OpenGraph, u: VertexId) -> bool
 }
 
 fn is_gadget_of(g: &OpenGraph, u: VertexId, legs: usize) -> bool
-    requires { Live g.now.graph u }
+    requires { IsVertex g.now.graph u }
     ensures { (result ≡ true) ↔ IsGadgetOf g.now.graph u legs }
 {
     let (plane, _) = g.weight(u);
@@ -348,7 +348,7 @@ fn is_gadget_of(g: &OpenGraph, u: VertexId, legs: usize) -> bool
 // Whether v is a gadget other than u with the neighbours of u. The word tells which vertices are beside each of these:
 // most gadgets aren't.
 fn is_twin(g: &OpenGraph, u: VertexId, v: VertexId, beside: u64) -> bool
-    requires live { Live g.now.graph u }
+    requires live { IsVertex g.now.graph u }
     requires told { TellsTwins g.now.graph u (v / 64) beside }
     ensures { result ≡ is_twin g.now.graph u v }
 {
@@ -368,8 +368,8 @@ fn has_bit(word: u64, place: usize) -> bool
 
 // Whether two vertices have the same neighbours.
 fn are_alike(g: &OpenGraph, u: VertexId, v: VertexId) -> bool
-    requires u_live { Live g.now.graph u }
-    requires v_live { Live g.now.graph v }
+    requires u_live { IsVertex g.now.graph u }
+    requires v_live { IsVertex g.now.graph v }
     ensures { result ≡ pointwise nat_eq (neighbours g.now.graph v) (neighbours g.now.graph u) }
 {
     g.neighbour_set(v).is_same(g.neighbour_set(u))

@@ -1,7 +1,7 @@
 //! What moves of simplification are. The functions do nothing: their contracts are the laws.
 
 ghost use Rattle.std.specs.Prelude.{◌≡◌, ◌<◌, ◌≤◌, ◌+◌, ◌*◌, ℕ, true, List, ◌∷◌, length};
-ghost use Rattle.zx_calculus.specs.Graph.{XY, Graph, plane_of, Live, WellFormed};
+ghost use Rattle.zx_calculus.specs.Graph.{XY, Graph, plane_of, IsVertex, WellFormed};
 ghost use Rattle.zx_calculus.specs.Moves.{IsStuck};
 ghost use Rattle.zx_calculus.specs.Reduced.{IsReduced};
 ghost use Rattle.zx_calculus.specs.Steps as calculus;
@@ -53,10 +53,10 @@ pub fn moves_are_a_run()
 /// A graph all of whose vertices are XY, as that of a circuit, allows at most twice as many moves
 /// as it has vertices.
 pub fn graphs_of_circuits_allow_few_moves()
-    ensures most { (g : Graph) → WellFormed g → ((v : ℕ) → Live g v → plane_of g v ≡ XY) →
+    ensures most { (g : Graph) → WellFormed g → ((v : ℕ) → IsVertex g v → plane_of g v ≡ XY) →
         most_moves g ≤ 2 * length g.vertices }
     ensures moves { (g : Graph) (n : ℕ) (steps : List calculus.Step) (h : Graph) → WellFormed g →
-        ((v : ℕ) → Live g v → plane_of g v ≡ XY) → AreMoves g n steps h →
+        ((v : ℕ) → IsVertex g v → plane_of g v ≡ XY) → AreMoves g n steps h →
         n ≤ 2 * length g.vertices }
 {}
 

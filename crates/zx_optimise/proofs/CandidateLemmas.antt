@@ -7,33 +7,33 @@ use Rattle.zx_gates.specs.declared.tally.Counts.{Counts}
 use Rattle.zx_gates.specs.Circuit.{Circuit, gate_odd_phases}
 use Rattle.zx_gates.proofs.Passing.{implements_more}
 use Rattle.zx_calculus.proofs.Ids.{by_test}
-use Rattle.zx_optimise.specs.Optimising.{bound_of, counts_of, most_optimised_root2, IsCleaned, IsBest, IsNoDearerThanRead, IsNoDearerThanTeleported, IsPlain}
-use Rattle.zx_optimise.specs.Internal.Candidates.{is_dearer, most_whole_root2, IsCandidate, IsCheaper, IsNoDearerThan, IsTakenOver, IsTeleportedCleanup, Offers}
+use Rattle.zx_optimise.specs.Optimising.{bound_of, counts_of, most_optimised_root2, IsCleaned, IsBest, CostsNoMoreThanRead, CostsNoMoreThanTeleported, IsPlain}
+use Rattle.zx_optimise.specs.Internal.Candidates.{is_dearer, most_whole_root2, IsCandidate, IsCheaper, CostsNoMoreThan, IsTakenOver, IsTeleportedCleanup, Offers}
 
 -- ---- what costs less
 -- of three numbers each, of which the first decide
-abbrev NoDearer : (a b c x y z : ℕ) → Type 0
-NoDearer a b c x y z = (a < x) ⊎ ((a ≡ x) × ((b < y) ⊎ ((b ≡ y) × (c ≤ z))))
+abbrev CostsNoMoreBy : (a b c x y z : ℕ) → Type 0
+CostsNoMoreBy a b c x y z = (a < x) ⊎ ((a ≡ x) × ((b < y) ⊎ ((b ≡ y) × (c ≤ z))))
 
-no_dearer_by-trans : (a b c x y z u v w : ℕ) → NoDearer a b c x y z → NoDearer x y z u v w → NoDearer a b c u v w
-no_dearer_by-trans a b c x y z u v w (inl less) (inl more) = inl (omega arith)
-no_dearer_by-trans a b c x y z u v w (inl less) (inr same) = inl (let e : x ≡ u = same.0 in omega arith)
-no_dearer_by-trans a b c x y z u v w (inr same) (inl more) = inl (let e : a ≡ x = same.0 in omega arith)
-no_dearer_by-trans a b c x y z u v w (inr (e, inl less)) (inr (f, inl more)) = inr (e ∙ f, inl (omega arith))
-no_dearer_by-trans a b c x y z u v w (inr (e, inl less)) (inr (f, inr same)) = inr (e ∙ f, inl (let g : y ≡ v = same.0 in omega arith))
-no_dearer_by-trans a b c x y z u v w (inr (e, inr same)) (inr (f, inl more)) = inr (e ∙ f, inl (let g : b ≡ y = same.0 in omega arith))
-no_dearer_by-trans a b c x y z u v w (inr (e, inr same)) (inr (f, inr again)) =
+costs_no_more_by-trans : (a b c x y z u v w : ℕ) → CostsNoMoreBy a b c x y z → CostsNoMoreBy x y z u v w → CostsNoMoreBy a b c u v w
+costs_no_more_by-trans a b c x y z u v w (inl less) (inl more) = inl (omega arith)
+costs_no_more_by-trans a b c x y z u v w (inl less) (inr same) = inl (let e : x ≡ u = same.0 in omega arith)
+costs_no_more_by-trans a b c x y z u v w (inr same) (inl more) = inl (let e : a ≡ x = same.0 in omega arith)
+costs_no_more_by-trans a b c x y z u v w (inr (e, inl less)) (inr (f, inl more)) = inr (e ∙ f, inl (omega arith))
+costs_no_more_by-trans a b c x y z u v w (inr (e, inl less)) (inr (f, inr same)) = inr (e ∙ f, inl (let g : y ≡ v = same.0 in omega arith))
+costs_no_more_by-trans a b c x y z u v w (inr (e, inr same)) (inr (f, inl more)) = inr (e ∙ f, inl (let g : b ≡ y = same.0 in omega arith))
+costs_no_more_by-trans a b c x y z u v w (inr (e, inr same)) (inr (f, inr again)) =
     inr (e ∙ f, inr (same.0 ∙ again.0, (let p : c ≤ z = same.1 in let q : z ≤ w = again.1 in omega arith)))
 
-pub no_dearer-trans : (a b c : Circuit) → IsNoDearerThan a b → IsNoDearerThan b c → IsNoDearerThan a c
-no_dearer-trans a b c =
+pub costs_no_more-trans : (a b c : Circuit) → CostsNoMoreThan a b → CostsNoMoreThan b c → CostsNoMoreThan a c
+costs_no_more-trans a b c =
     let p = counts_of a.gates in
     let q = counts_of b.gates in
     let r = counts_of c.gates in
-    no_dearer_by-trans p.odd p.two_qubit p.total q.odd q.two_qubit q.total r.odd r.two_qubit r.total
+    costs_no_more_by-trans p.odd p.two_qubit p.total q.odd q.two_qubit q.total r.odd r.two_qubit r.total
 
-no_dearer_by-parts : (a b c x y z : ℕ) → a ≤ x → b ≤ y → c ≤ z → NoDearer a b c x y z
-no_dearer_by-parts a b c x y z odd two total =
+costs_no_more_by-parts : (a b c x y z : ℕ) → a ≤ x → b ≤ y → c ≤ z → CostsNoMoreBy a b c x y z
+costs_no_more_by-parts a b c x y z odd two total =
     elim (eq-or-lt_of_le odd) [
       | inr less ↦ inl less
       | inl same ↦ inr (same, elim (eq-or-lt_of_le two) [ inr less ↦ inl less | inl alike ↦ inr (alike, total) ])
@@ -43,10 +43,10 @@ no_dearer_by-parts a b c x y z odd two total =
 abbrev Cheaper : (a b c x y z : ℕ) → Type 0
 Cheaper a b c x y z = (a < x) ⊎ ((a ≡ x) × ((b < y) ⊎ ((b ≡ y) × (c < z))))
 
-cheaper-no_dearer : (a b c x y z : ℕ) → Cheaper a b c x y z → NoDearer a b c x y z
-cheaper-no_dearer a b c x y z (inl less) = inl less
-cheaper-no_dearer a b c x y z (inr (e, inl less)) = inr (e, inl less)
-cheaper-no_dearer a b c x y z (inr (e, inr (f, less))) = inr (e, inr (f, omega arith))
+cheaper-costs_no_more : (a b c x y z : ℕ) → Cheaper a b c x y z → CostsNoMoreBy a b c x y z
+cheaper-costs_no_more a b c x y z (inl less) = inl less
+cheaper-costs_no_more a b c x y z (inr (e, inl less)) = inr (e, inl less)
+cheaper-costs_no_more a b c x y z (inr (e, inr (f, less))) = inr (e, inr (f, omega arith))
 
 cheaper_by-trans : (a b c x y z u v w : ℕ) → Cheaper a b c x y z → Cheaper x y z u v w → Cheaper a b c u v w
 cheaper_by-trans a b c x y z u v w (inl less) (inl more) = inl (omega arith)
@@ -58,7 +58,7 @@ cheaper_by-trans a b c x y z u v w (inr (e, inr (g, less))) (inr (f, inl more)) 
 cheaper_by-trans a b c x y z u v w (inr (e, inr (g, less))) (inr (f, inr (h, more))) = inr (e ∙ f, inr (g ∙ h, omega arith))
 
 -- nothing is cheaper than what is no dearer
-cheaper-dearer : (a b c x y z : ℕ) → Cheaper a b c x y z → NoDearer x y z a b c → ⊥
+cheaper-dearer : (a b c x y z : ℕ) → Cheaper a b c x y z → CostsNoMoreBy x y z a b c → ⊥
 cheaper-dearer a b c x y z (inl less) (inl more) = absurd (omega arith)
 cheaper-dearer a b c x y z (inl less) (inr (f, more)) = absurd (omega arith)
 cheaper-dearer a b c x y z (inr (e, less)) (inl more) = absurd (omega arith)
@@ -76,11 +76,11 @@ dearer-odd a b h =
     let below : b.odd < a.odd = ltb-true b.odd a.odd less in omega (arith, below))
 
 -- a cleanup is no dearer
-cleanup_cheap : (read made : Circuit) → IsCleaned read made → IsNoDearerThan made read
+cleanup_cheap : (read made : Circuit) → IsCleaned read made → CostsNoMoreThan made read
 cleanup_cheap read made clean =
     let p = counts_of made.gates in
     let q = counts_of read.gates in
-    no_dearer_by-parts p.odd p.two_qubit p.total q.odd q.two_qubit q.total clean.odd clean.two_qubit clean.total
+    costs_no_more_by-parts p.odd p.two_qubit p.total q.odd q.two_qubit q.total clean.odd clean.two_qubit clean.total
 
 -- ---- what is taken in the place of another
 pub taken-trans : (first second third : ScaledCircuit) → IsTakenOver first second → IsTakenOver second third → IsTakenOver first third
@@ -95,31 +95,31 @@ taken-trans first second third (inr less) (inr more) =
     let r = counts_of first.gates.gates in
     inr (cheaper_by-trans p.odd p.two_qubit p.total q.odd q.two_qubit q.total r.odd r.two_qubit r.total more less)
 
-pub taken_cheap : (best made : ScaledCircuit) → IsTakenOver best made → IsNoDearerThan made.gates best.gates
-taken_cheap best made (inl same) = subst (λ (b : ScaledCircuit). IsNoDearerThan made.gates b.gates) same (inr (refl, inr (refl, le_refl _)))
+pub taken_cheap : (best made : ScaledCircuit) → IsTakenOver best made → CostsNoMoreThan made.gates best.gates
+taken_cheap best made (inl same) = subst (λ (b : ScaledCircuit). CostsNoMoreThan made.gates b.gates) same (inr (refl, inr (refl, le_refl _)))
 taken_cheap best made (inr less) =
     let p = counts_of made.gates.gates in
     let q = counts_of best.gates.gates in
-    cheaper-no_dearer p.odd p.two_qubit p.total q.odd q.two_qubit q.total less
+    cheaper-costs_no_more p.odd p.two_qubit p.total q.odd q.two_qubit q.total less
 
-taken_at_tie : (best made : ScaledCircuit) → IsTakenOver best made → IsNoDearerThan best.gates made.gates → made.gates ≡ best.gates
+taken_at_tie : (best made : ScaledCircuit) → IsTakenOver best made → CostsNoMoreThan best.gates made.gates → made.gates ≡ best.gates
 taken_at_tie best made (inl same) cheap = ap (λ (c : ScaledCircuit). c.gates) same
 taken_at_tie best made (inr less) cheap =
     let p = counts_of made.gates.gates in
     let q = counts_of best.gates.gates in
     absurd (cheaper-dearer p.odd p.two_qubit p.total q.odd q.two_qubit q.total less cheap)
 
-pub than_read-trans : (read made best : Circuit) → IsNoDearerThan made best → IsNoDearerThanRead read best → IsNoDearerThanRead read made
+pub than_read-trans : (read made best : Circuit) → CostsNoMoreThan made best → CostsNoMoreThanRead read best → CostsNoMoreThanRead read made
 than_read-trans read made best cheap is = record {
   cleaned = is.cleaned;
   cleanup = is.cleanup;
-  no_dearer = λ within. no_dearer-trans made best is.cleaned cheap (is.no_dearer within);
-  no_dearer_than_read = λ within. no_dearer-trans made best read cheap (is.no_dearer_than_read within);
+  costs_no_more = λ within. costs_no_more-trans made best is.cleaned cheap (is.costs_no_more within);
+  costs_no_more_than_read = λ within. costs_no_more-trans made best read cheap (is.costs_no_more_than_read within);
 }
 
 pub best_of_all : {E : Type 0} (read : Circuit) (plain best : ScaledCircuit) (found : Result ScaledCircuit E) → IsPlain read plain.gates
-    → IsTakenOver plain best → IsNoDearerThanRead read best.gates → IfOk found (IsTakenOver best)
-    → IfOk found (λ made. IsNoDearerThanTeleported read made.gates) → IfOk found (λ made. IsBest read made.gates)
+    → IsTakenOver plain best → CostsNoMoreThanRead read best.gates → IfOk found (IsTakenOver best)
+    → IfOk found (λ made. CostsNoMoreThanTeleported read made.gates) → IfOk found (λ made. IsBest read made.gates)
 best_of_all read plain best (Err error) is first than_read then than_teleported = tt
 best_of_all read plain best (Ok made) is first than_read then than_teleported =
     let taken = taken-trans plain best made first then in
@@ -127,7 +127,7 @@ best_of_all read plain best (Ok made) is first than_read then than_teleported =
       than_plain = record {
         plain = plain.gates;
         is_plain = is;
-        no_dearer = taken_cheap plain made taken;
+        costs_no_more = taken_cheap plain made taken;
         at_tie = taken_at_tie plain made taken;
       };
       than_read = than_read-trans read made.gates best.gates (taken_cheap best made then) than_read;
@@ -169,20 +169,20 @@ offers-candidate k read best made o is few fewer = record {
 }
 
 -- ---- what is no dearer than some circuit is so than all that this was
-pub than_read : (read made : Circuit) (cleaned : Circuit) → IsCleaned read cleaned → (length cleaned.gates ≤ bound_of read → IsNoDearerThan made cleaned)
-    → IsNoDearerThanRead read made
+pub than_read : (read made : Circuit) (cleaned : Circuit) → IsCleaned read cleaned → (length cleaned.gates ≤ bound_of read → CostsNoMoreThan made cleaned)
+    → CostsNoMoreThanRead read made
 than_read read made cleaned clean cheap = record {
   cleaned = cleaned;
   cleanup = clean;
-  no_dearer = cheap;
-  no_dearer_than_read = λ within. no_dearer-trans made cleaned read (cheap (le_trans clean.total within)) (cleanup_cheap read cleaned clean);
+  costs_no_more = cheap;
+  costs_no_more_than_read = λ within. costs_no_more-trans made cleaned read (cheap (le_trans clean.total within)) (cleanup_cheap read cleaned clean);
 }
 
 pub than_teleported : (read made candidate : Circuit) → (t : IsTeleportedCleanup read candidate)
-    → (length candidate.gates ≤ bound_of read → IsNoDearerThan made candidate) → IsNoDearerThanTeleported read made
+    → (length candidate.gates ≤ bound_of read → CostsNoMoreThan made candidate) → CostsNoMoreThanTeleported read made
 than_teleported read made candidate t cheap = record {
   teleported = t.teleported;
   teleports = t.teleports;
-  no_dearer = λ within.
-      no_dearer-trans made candidate t.teleported (cheap (le_trans t.cleanup.total within)) (cleanup_cheap t.teleported candidate t.cleanup);
+  costs_no_more = λ within.
+      costs_no_more-trans made candidate t.teleported (cheap (le_trans t.cleanup.total within)) (cleanup_cheap t.teleported candidate t.cleanup);
 }

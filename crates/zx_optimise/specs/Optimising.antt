@@ -58,8 +58,8 @@ counts_of gates = record {
 
 -- Fewer odd phases; or as many of them and fewer gates on two qubits; or as many of both and no more gates
 -- in all.
-abbrev pub IsNoDearer : Counts → Counts → Type 0
-IsNoDearer a b =
+abbrev pub CostsNoMore : Counts → Counts → Type 0
+CostsNoMore a b =
     (a.odd < b.odd) ⊎ ((a.odd ≡ b.odd)
     × ((a.two_qubit < b.two_qubit) ⊎ ((a.two_qubit ≡ b.two_qubit) × (a.total ≤ b.total))))
 
@@ -79,28 +79,30 @@ pub record IsCleaned (read made : Circuit) : Type 0 where
 
 -- The circuit that is made is no dearer than a cleanup of the read one, where that is within the bound; nor
 -- than the read one, where that is.
-pub record IsNoDearerThanRead (read made : Circuit) : Type 0 where
+pub record CostsNoMoreThanRead (read made : Circuit) : Type 0 where
   pub cleaned : Circuit
   pub cleanup : IsCleaned read cleaned
-  pub no_dearer : length cleaned.gates ≤ bound_of read → IsNoDearer (counts_of made.gates) (counts_of cleaned.gates)
-  pub no_dearer_than_read : length read.gates ≤ bound_of read → IsNoDearer (counts_of made.gates) (counts_of read.gates)
+  pub costs_no_more : length cleaned.gates ≤ bound_of read →
+      CostsNoMore (counts_of made.gates) (counts_of cleaned.gates)
+  pub costs_no_more_than_read : length read.gates ≤ bound_of read →
+      CostsNoMore (counts_of made.gates) (counts_of read.gates)
 
 -- It is no dearer than one whose phases alone are changed, where that is within the bound.
-pub record IsNoDearerThanTeleported (read made : Circuit) : Type 0 where
+pub record CostsNoMoreThanTeleported (read made : Circuit) : Type 0 where
   pub teleported : Circuit
   pub teleports : Teleports read teleported
-  pub no_dearer : length teleported.gates ≤ bound_of read →
-      IsNoDearer (counts_of made.gates) (counts_of teleported.gates)
+  pub costs_no_more : length teleported.gates ≤ bound_of read →
+      CostsNoMore (counts_of made.gates) (counts_of teleported.gates)
 
 -- It is no dearer than what `opt` makes without `--best`; and where that is no dearer either, it is that.
-pub record IsNoDearerThanPlain (read made : Circuit) : Type 0 where
+pub record CostsNoMoreThanPlain (read made : Circuit) : Type 0 where
   pub plain : Circuit
   pub is_plain : IsPlain read plain
-  pub no_dearer : IsNoDearer (counts_of made.gates) (counts_of plain.gates)
-  pub at_tie : IsNoDearer (counts_of plain.gates) (counts_of made.gates) → made ≡ plain
+  pub costs_no_more : CostsNoMore (counts_of made.gates) (counts_of plain.gates)
+  pub at_tie : CostsNoMore (counts_of plain.gates) (counts_of made.gates) → made ≡ plain
 
 -- It is no dearer than these candidates.
 pub record IsBest (read made : Circuit) : Type 0 where
-  pub than_plain : IsNoDearerThanPlain read made
-  pub than_read : IsNoDearerThanRead read made
-  pub than_teleported : IsNoDearerThanTeleported read made
+  pub than_plain : CostsNoMoreThanPlain read made
+  pub than_read : CostsNoMoreThanRead read made
+  pub than_teleported : CostsNoMoreThanTeleported read made

@@ -4,8 +4,8 @@ ghost use Rattle.std.specs.Prelude.{◌≡◌, ◌≤◌, true, false, length, n
 ghost use Rattle.zx_model.specs.Scalar.{IsWithin};
 ghost use Rattle.zx_gates.specs.Circuit.{Circuit};
 ghost use Rattle.zx_extract.specs.Simplified.{gate_bound};
-ghost use Rattle.zx_optimise.specs.Optimising.{bound_of, most_optimised_root2, IsBest, IsCleaned, IsNoDearerThanRead, IsNoDearerThanTeleported, IsPlain, Optimises};
-ghost use Rattle.zx_optimise.specs.Internal.Candidates.{is_dearer, most_whole_root2, IsCandidate, IsNoDearerThan, IsTakenOver, IsTeleportedCleanup, Offers};
+ghost use Rattle.zx_optimise.specs.Optimising.{bound_of, most_optimised_root2, IsBest, IsCleaned, CostsNoMoreThanRead, CostsNoMoreThanTeleported, IsPlain, Optimises};
+ghost use Rattle.zx_optimise.specs.Internal.Candidates.{is_dearer, most_whole_root2, IsCandidate, CostsNoMoreThan, IsTakenOver, IsTeleportedCleanup, Offers};
 
 use fewer_phases::with_fewer_odd_phases;
 use std::alloc::{AllocError, Global};
@@ -104,7 +104,7 @@ fn beside_read(read: &GateList, best: ScaledCircuit) -> Result<ScaledCircuit, Al
     requires { Offers most_optimised_root2 read.now best }
     ensures offers { IfOk result (Offers most_optimised_root2 read.now) }
     ensures than_best { IfOk result (IsTakenOver best) }
-    ensures than_read { IfOk result (λ made. IsNoDearerThanRead read.now made.gates) }
+    ensures than_read { IfOk result (λ made. CostsNoMoreThanRead read.now made.gates) }
 {
     let cleaned = cleaned(read)?;
     Ok(cheaper(read, best, cleaned))
@@ -120,7 +120,7 @@ fn beside_teleported(
     requires { Offers most_optimised_root2 read.now best }
     ensures offers { IfOk result (Offers most_optimised_root2 read.now) }
     ensures than_best { IfOk result (IsTakenOver best) }
-    ensures than_teleported { IfOk result (λ made. IsNoDearerThanTeleported read.now made.gates) }
+    ensures than_teleported { IfOk result (λ made. CostsNoMoreThanTeleported read.now made.gates) }
 {
     let teleported = teleported(alloc, read)?;
     let shrunk = shrunk(alloc, &teleported)?;
@@ -186,7 +186,7 @@ fn cheaper(read: &GateList, best: ScaledCircuit, candidate: ScaledCircuit) -> Sc
     ensures offers { Offers most_optimised_root2 read.now result }
     ensures than_best { IsTakenOver best result }
     ensures than_candidate { length candidate.gates.gates ≤ bound_of read.now →
-        IsNoDearerThan result.gates candidate.gates }
+        CostsNoMoreThan result.gates candidate.gates }
 {
     let count = counts(&candidate.gates);
     if !is_within_bound(read.qubits(), counts(read).odd, count.total) {

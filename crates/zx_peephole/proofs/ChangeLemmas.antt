@@ -23,7 +23,7 @@ use Rattle.zx_gates.proofs.MapLemmas.{amp-acts, acts-append}
 use Rattle.zx_gates.proofs.Multiples.{acts-factor}
 use Rattle.zx_gates.proofs.Scaling.{scaled_amp, scaled_if_doubled}
 use Rattle.zx_peephole.specs.Commuting.{commutes}
-use Rattle.zx_peephole.specs.Tidy.{is_pair, is_turned, is_off, IsTidy}
+use Rattle.zx_peephole.specs.Tidy.{cancels_or_merges, is_turned, is_off, IsTidy}
 use Rattle.zx_peephole.specs.Internal.Merging.{merged, doublings, conjugated}
 use Rattle.zx_peephole.specs.Internal.Changes.{EndsPair, EndsTriple, Shortens}
 use Rattle.zx_peephole.proofs.Cuts.{all-append}
@@ -61,7 +61,7 @@ shortens_scaled n k old new s =
 
 -- ---- maps
 -- the first gate of a pair goes past the gates between
-pair_map : (n : ℕ) (before between after : List Gate) (g h : Gate) → is_pair g h ≡ true → IsOnQubits n g
+pair_map : (n : ℕ) (before between after : List Gate) (g h : Gate) → cancels_or_merges g h ≡ true → IsOnQubits n g
     → list_all (commutes g) between ≡ true → (f : List Bool → Number) (x : List Bool) → length x ≡ n
     → acts (before ++ g ∷ (between ++ h ∷ after)) f x
     ≡ mul (power_of_two (doublings g)) (acts (before ++ (between ++ (merged g h ++ after))) f x)
@@ -178,7 +178,7 @@ conjugated_two_qubit q (Not p) turned = omega arith
 conjugated_two_qubit q g turned = absurd (let h : false ≡ true = turned in cc)
 
 -- ---- pairs and triples in their list
-pub pair_shortens : (n : ℕ) (before between after : List Gate) (g h : Gate) → is_pair g h ≡ true → IsOnQubits n g
+pub pair_shortens : (n : ℕ) (before between after : List Gate) (g h : Gate) → cancels_or_merges g h ≡ true → IsOnQubits n g
     → list_all (commutes g) between ≡ true
     → Shortens n (doublings g) (before ++ g ∷ (between ++ h ∷ after)) (before ++ (between ++ (merged g h ++ after)))
 pair_shortens n before between after g h merge on commute = record {

@@ -12,7 +12,7 @@ use Rattle.zx_gates.specs.Maps.{act, acts}
 use Rattle.zx_gates.specs.declared.gate.Gate.{Gate}
 use Rattle.zx_gates.specs.declared.gate.Gate.TheVariants.{H, Phase, Cz, Cx, Not}
 use Rattle.zx_peephole.specs.Commuting.{is_on, are_apart, is_diagonal, shares_control, negate_freely, passes, commutes}
-use Rattle.zx_peephole.specs.Tidy.{is_pair, is_off, is_turned}
+use Rattle.zx_peephole.specs.Tidy.{cancels_or_merges, is_off, is_turned}
 use Rattle.zx_peephole.proofs.Acting.{Spreads, Scales, spread, spread-spread, spreads, scales, negated, negated-negated, act-not, bit-blind, true-blind}
 
 -- ---- maps of two gates
@@ -196,7 +196,7 @@ passes_to_cz q r (Not p) = ap (λ a. (a || false) || false) (apart_cz q r (Not p
 alike_cz : (q r : ℕ) (x : Gate) → commutes (Cz q r) x ≡ commutes (Cz r q) x
 alike_cz q r x = ap₂ (λ a b. a || b) (passes_cz q r x) (passes_to_cz q r x)
 
-pub alike : (g h : Gate) → is_pair g h ≡ true → (x : Gate) → commutes g x ≡ commutes h x
+pub alike : (g h : Gate) → cancels_or_merges g h ≡ true → (x : Gate) → commutes g x ≡ commutes h x
 alike (H q) (H r) pair x = ap (λ p. commutes (H p) x) (eqb-true q r pair)
 alike (Phase q j) (Phase r k) pair x = ap (λ p. commutes (Phase p j) x) (eqb-true q r pair) ∙ alike_phase r j k x
 alike (Cz q r) (Cz s t) pair x =

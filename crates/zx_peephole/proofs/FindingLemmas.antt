@@ -9,7 +9,7 @@ use Rattle.std.proofs.lemmas.List.{length-append}
 use Rattle.zx_gates.specs.declared.gate.Gate.{Gate}
 use Rattle.zx_gates.specs.declared.gate.Gate.TheVariants.{H}
 use Rattle.zx_peephole.specs.Commuting.{is_on, commutes}
-use Rattle.zx_peephole.specs.Tidy.{is_pair, is_turned, is_off, IsTidy}
+use Rattle.zx_peephole.specs.Tidy.{cancels_or_merges, is_turned, is_off, IsTidy}
 use Rattle.zx_peephole.specs.Internal.Changes.{EndsPair, EndsTriple}
 use Rattle.zx_peephole.specs.Internal.Stops.{stops, is_free, turns, IsLastStop}
 use Rattle.zx_peephole.proofs.Cuts.{cut_cases, cut_head, last_cut, all_at, all_weaker}
@@ -17,15 +17,15 @@ use Rattle.zx_peephole.proofs.CommutingLemmas.{alike, commutes_comm, commutes_of
 use Rattle.zx_peephole.proofs.TidyLemmas.{tidy-more}
 
 -- ---- what stops a gate
-pair_stops : (g x : Gate) → is_pair x g ≡ true → stops g x ≡ true
-pair_stops g x pair = or_left (is_pair x g) (not (commutes x g)) pair
+pair_stops : (g x : Gate) → cancels_or_merges x g ≡ true → stops g x ≡ true
+pair_stops g x pair = or_left (cancels_or_merges x g) (not (commutes x g)) pair
 
 free_commutes : (g x : Gate) → not (stops g x) ≡ true → commutes x g ≡ true
 free_commutes g x free =
-    not-false (commutes x g) ((or_parts (is_pair x g) (not (commutes x g)) (not-true (stops g x) free)).1)
+    not-false (commutes x g) ((or_parts (cancels_or_merges x g) (not (commutes x g)) (not-true (stops g x) free)).1)
 
 -- a gate that is a pair with H is H
-pub pair_with_hadamard : (q : ℕ) (x : Gate) → is_pair x (H q) ≡ true → x ≡ H q
+pub pair_with_hadamard : (q : ℕ) (x : Gate) → cancels_or_merges x (H q) ≡ true → x ≡ H q
 pair_with_hadamard q (H p) pair = ap H (eqb-true p q pair)
 pair_with_hadamard q x pair = absurd (let h : false ≡ true = pair in cc)
 
@@ -34,18 +34,18 @@ hadamard_stopped : (q : ℕ) (x : Gate) → stops (H q) x ≡ true → is_on q x
 hadamard_stopped q x stopped =
     elim (cases_Bool (is_on q x)) [
       | inl on ↦ on
-      | inr off ↦ absurd (both_ways (stops (H q) x) (or_from (is_pair x (H q)) (not (commutes x (H q))) (unpaired off)
+      | inr off ↦ absurd (both_ways (stops (H q) x) (or_from (cancels_or_merges x (H q)) (not (commutes x (H q))) (unpaired off)
           (not_from_true (commutes x (H q)) (commutes_comm x (H q) ∙ off_commutes q x off))) stopped)
     ]
   where
-    unpaired : is_on q x ≡ false → is_pair x (H q) ≡ false
+    unpaired : is_on q x ≡ false → cancels_or_merges x (H q) ≡ false
     unpaired off =
-        false_from_ne_true (is_pair x (H q))
+        false_from_ne_true (cancels_or_merges x (H q))
         (λ pair. both_ways (is_on q x) off (ap (is_on q) (pair_with_hadamard q x pair) ∙ eq-eqb q q refl))
 
 on_stops : (q : ℕ) (x : Gate) → is_on q x ≡ true → stops (H q) x ≡ true
 on_stops q x on =
-    or_right (is_pair x (H q)) (not (commutes x (H q)))
+    or_right (cancels_or_merges x (H q)) (not (commutes x (H q)))
     (not_from_false (commutes x (H q))
     (false_from_ne_true (commutes x (H q))
     (λ passed. both_ways (is_on q x) (commutes_off q x (commutes_comm (H q) x ∙ passed)) on)))
@@ -74,7 +74,7 @@ in_free g x gates before after cut free stopped =
 free_no_pair : (front : List Gate) (g : Gate) → is_free g front ≡ true → (m : ℕ) → EndsPair front g m → ⊥
 free_no_pair front g free m e = in_free g e.first front e.before e.between e.cut free (pair_stops g e.first e.merge)
 
-stop_no_pair : (front : List Gate) (g : Gate) (i : ℕ) (s : IsLastStop g front i) → is_pair s.stop g ≡ false → (m : ℕ)
+stop_no_pair : (front : List Gate) (g : Gate) (i : ℕ) (s : IsLastStop g front i) → cancels_or_merges s.stop g ≡ false → (m : ℕ)
     → EndsPair front g m → ⊥
 stop_no_pair front g i s apart m e =
     elim (cut_cases s.before (s.stop ∷ s.between) e.before e.between e.first (sym s.cut ∙ e.cut)) [
@@ -83,10 +83,10 @@ stop_no_pair front g i s apart m e =
           commutes_comm s.stop g ∙ sym (alike e.first g e.merge s.stop)
           ∙ all_at (commutes e.first) e.between c.rest s.between s.stop c.second e.commute in
           both_ways (stops g s.stop)
-          (or_from (is_pair s.stop g) (not (commutes s.stop g)) apart
+          (or_from (cancels_or_merges s.stop g) (not (commutes s.stop g)) apart
           (not_from_true (commutes s.stop g) passes)) s.stopped
       | inr c ↦ elim (cut_head s.stop e.first s.between c.rest e.between c.second) [
-        | inl h ↦ both_ways (is_pair s.stop g) apart (ap (λ x. is_pair x g) h.1 ∙ e.merge)
+        | inl h ↦ both_ways (cancels_or_merges s.stop g) apart (ap (λ x. cancels_or_merges x g) h.1 ∙ e.merge)
         | inr h ↦ in_free g e.first s.between h.rest e.between h.later s.free (pair_stops g e.first e.merge)
       ]
     ]
@@ -132,7 +132,7 @@ pub free_extends : (front : List Gate) (g : Gate) → is_free g front ≡ true �
 free_extends front g free = tidy-more front g (free_no_pair front g free) (free_no_triple front g free)
 
 -- the gate that stops it is neither a pair with it nor the middle of a triple
-pub stop_extends : (front : List Gate) (g : Gate) (i : ℕ) (s : IsLastStop g front i) → is_pair s.stop g ≡ false
+pub stop_extends : (front : List Gate) (g : Gate) (i : ℕ) (s : IsLastStop g front i) → cancels_or_merges s.stop g ≡ false
     → turns g s.stop ≡ false
     → Extends front g
 stop_extends front g i s apart straight =
@@ -144,7 +144,7 @@ hadamard_stops_itself : (q : ℕ) → stops (H q) (H q) ≡ true
 hadamard_stops_itself q = pair_stops (H q) (H q) (eq-eqb q q refl)
 
 -- no gate before the middle one stops it
-pub free_stop_extends : (front : List Gate) (g : Gate) (i : ℕ) (s : IsLastStop g front i) → is_pair s.stop g ≡ false
+pub free_stop_extends : (front : List Gate) (g : Gate) (i : ℕ) (s : IsLastStop g front i) → cancels_or_merges s.stop g ≡ false
     → is_free g s.before ≡ true → Extends front g
 free_stop_extends front g i s apart free =
     tidy-more front g (stop_no_pair front g i s apart)
@@ -153,8 +153,8 @@ free_stop_extends front g i s apart free =
     (ap (λ x. stops x (H e.qubit)) e.is ∙ hadamard_stops_itself e.qubit))
 
 -- the gate before the middle one that stops it isn't H
-pub stops_extend : (front : List Gate) (g : Gate) (i k : ℕ) (s : IsLastStop g front i) → is_pair s.stop g ≡ false
-    → (r : IsLastStop g s.before k) → is_pair r.stop g ≡ false → Extends front g
+pub stops_extend : (front : List Gate) (g : Gate) (i k : ℕ) (s : IsLastStop g front i) → cancels_or_merges s.stop g ≡ false
+    → (r : IsLastStop g s.before k) → cancels_or_merges r.stop g ≡ false → Extends front g
 stops_extend front g i k s apart r other = tidy-more front g (stop_no_pair front g i s apart) none
   where
     none : (m n : ℕ) → EndsTriple front g m n → ⊥
@@ -165,7 +165,7 @@ stops_extend front g i k s apart r other = tidy-more front g (stop_no_pair front
         (sym r.cut ∙ t.cut) r.stopped
         (ap (λ x. stops x (H q)) e.is ∙ hadamard_stops_itself q) r.free
         (ap (λ x. is_free x t.left) e.is ∙ off_free q t.left t.left_off) in
-        both_ways (is_pair r.stop g) other (ap₂ is_pair same.1 e.is ∙ eq-eqb q q refl)
+        both_ways (cancels_or_merges r.stop g) other (ap₂ cancels_or_merges same.1 e.is ∙ eq-eqb q q refl)
 
 -- ---- the gate ends a pair or a triple
 turns_hadamard : (g x : Gate) → turns g x ≡ true → (q : ℕ) × (g ≡ H q) × (is_turned q x ≡ true)
@@ -175,7 +175,7 @@ turns_hadamard g x turned = absurd (let h : false ≡ true = turned in cc)
 -- ---- as the search goes
 -- what stops g
 module _ (front : List Gate) (g : Gate) (i : ℕ) (s : IsLastStop g front i) where
-  pub stop_is_pair : is_pair s.stop g ≡ true → EndsPair front g i
+  pub stop_is_pair : cancels_or_merges s.stop g ≡ true → EndsPair front g i
   stop_is_pair merge = record {
     before = s.before;
     first = s.stop;
@@ -189,7 +189,7 @@ module _ (front : List Gate) (g : Gate) (i : ℕ) (s : IsLastStop g front i) whe
 
   -- and what stops it before that
   module _ (k : ℕ) (r : IsLastStop g s.before k) where
-    pub stop_is_triple : turns g s.stop ≡ true → is_pair r.stop g ≡ true → EndsTriple front g k i
+    pub stop_is_triple : turns g s.stop ≡ true → cancels_or_merges r.stop g ≡ true → EndsTriple front g k i
     stop_is_triple turned pair =
         let h = turns_hadamard g s.stop turned in
         record {
@@ -202,7 +202,7 @@ module _ (front : List Gate) (g : Gate) (i : ℕ) (s : IsLastStop g front i) whe
           cut = s.cut
               ∙ ap (λ xs. xs ++ s.stop ∷ s.between) (r.cut
               ∙ ap (λ z. r.before ++ z ∷ r.between)
-              (pair_with_hadamard h.0 r.stop (ap (is_pair r.stop) (sym h.1) ∙ pair)))
+              (pair_with_hadamard h.0 r.stop (ap (cancels_or_merges r.stop) (sym h.1) ∙ pair)))
               ∙ simp append_assoc;
           at_first = r.at;
           at_middle = omega (arith, r.at, s.at, ap length r.cut, length-append r.before (r.stop ∷ r.between));

@@ -14,7 +14,7 @@ use Rattle.zx_gates.specs.declared.gate.Gate.{Gate}
 use Rattle.zx_gates.specs.declared.gate.Gate.TheVariants.{H, Phase, Cz, Cx, Not}
 use Rattle.zx_gates.specs.Circuit.{most_qubits}
 use Rattle.zx_peephole.specs.Commuting.{is_on, are_apart, is_diagonal, shares_control, negate_freely, passes, commutes}
-use Rattle.zx_peephole.specs.Tidy.{is_pair}
+use Rattle.zx_peephole.specs.Tidy.{cancels_or_merges}
 use Rattle.zx_peephole.specs.declared.chains.Chains.{Chains}
 use Rattle.zx_peephole.specs.Internal.Marks.{bars, is_open, has_bit, has_mark, IsMarked, meets_none, IsMarkedBehind, IsMarkedWithout}
 use Rattle.zx_peephole.specs.Internal.Chains.{nothing, is_left, gate_at, second_qubit, kept, next_of}
@@ -173,21 +173,21 @@ passes_cz q r g passed =
     ]
 
 -- nor does a gate that is a pair with a Cz
-passes_open : (q r : ℕ) (first g : Gate) → is_pair first (Cz q r) ≡ true → commutes first g ≡ true → is_open q g ≡ true
+passes_open : (q r : ℕ) (first g : Gate) → cancels_or_merges first (Cz q r) ≡ true → commutes first g ≡ true → is_open q g ≡ true
 passes_open q r first g pair passed =
     elim (or_cases (passes (Cz q r) g) (passes g (Cz q r)) (sym (alike first (Cz q r) pair g) ∙ passed)) [
       | inl one ↦ cz_passes q r g one
       | inr other ↦ passes_cz q r g other
     ]
 
-either_order : (q r : ℕ) (first : Gate) → is_pair first (Cz q r) ≡ true → is_pair first (Cz r q) ≡ true
+either_order : (q r : ℕ) (first : Gate) → cancels_or_merges first (Cz q r) ≡ true → cancels_or_merges first (Cz r q) ≡ true
 either_order q r (Cz s t) pair = or_comm (eqb s r && eqb t q) (eqb s q && eqb t r) ∙ pair
 either_order q r first pair = absurd (let h : false ≡ true = pair in cc)
 
 -- ---- a Cz that lacks a mark
 module _ (marks : List (List ℕ)) (gates : List Gate) (m : IsMarked marks gates) where
   pair_marked : (q r : ℕ) (g : Gate) (i : ℕ) (e : EndsPair gates g i) → r < most_qubits
-      → is_pair e.first (Cz q r) ≡ true → has_mark marks q r ≡ true
+      → cancels_or_merges e.first (Cz q r) ≡ true → has_mark marks q r ≡ true
   pair_marked q r g i e few pair =
       m.marked q r e.before e.between e.first few e.cut pair
       (all_weaker (commutes e.first) (is_open q) (λ x passed. passes_open q r e.first x pair passed) e.between e.commute)
@@ -212,7 +212,7 @@ marked_more old new gates g m b = record {
     | inl c ↦ b.stays q r (not-true (bars q g) (all_at (is_open q) between c.rest [] g c.second clear))
         (m.marked q r before c.rest first few c.first pair
         (all_parts (is_open q) c.rest (g ∷ []) (ap (list_all (is_open q)) (sym c.second) ∙ clear)).0)
-    | inr c ↦ b.comes q r (ap (λ x. is_pair x (Cz q r)) (cut_one g first c.rest between c.second).1 ∙ pair)
+    | inr c ↦ b.comes q r (ap (λ x. cancels_or_merges x (Cz q r)) (cut_one g first c.rest between c.second).1 ∙ pair)
   ];
 }
 

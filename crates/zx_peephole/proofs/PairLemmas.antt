@@ -15,7 +15,7 @@ use Rattle.zx_gates.specs.declared.gate.Gate.{Gate}
 use Rattle.zx_gates.specs.declared.gate.Gate.TheVariants.{H, Phase, Cz, Cx, Not}
 use Rattle.zx_gates.proofs.MapLemmas.{act-phase-phase}
 use Rattle.zx_gates.proofs.UnitaryLemmas.{mixed, turned, exchanged, set_hadamard, set_phase, set_exchange, at_phase, act_on-bit, apply-exchange}
-use Rattle.zx_peephole.specs.Tidy.{is_pair, is_turned}
+use Rattle.zx_peephole.specs.Tidy.{cancels_or_merges, is_turned}
 use Rattle.zx_peephole.specs.Internal.Merging.{merged, doublings, conjugated}
 use Rattle.zx_peephole.proofs.Acting.{negated, IsBlind, act-not, bit-blind, true-blind}
 use Rattle.zx_gates.proofs.LoweringLemmas.{acts-phase_gates}
@@ -62,7 +62,7 @@ once : (a b : Number) → a ≡ b → a ≡ mul (power_of_two 0) b
 once a b e = e ∙ sym (one-mul b)
 
 -- the gates of a pair, one after the other, are what they become, up to a power of two
-pub pair_law : (n : ℕ) (g h : Gate) → is_pair g h ≡ true → IsOnQubits n g → (f : List Bool → Number) (z : List Bool) → length z ≡ n
+pub pair_law : (n : ℕ) (g h : Gate) → cancels_or_merges g h ≡ true → IsOnQubits n g → (f : List Bool → Number) (z : List Bool) → length z ≡ n
     → act g (act h f) z ≡ mul (power_of_two (doublings g)) (acts (merged g h) f z)
 pair_law n (H q) (H r) pair on f z l =
     ap (λ p. act (H q) (act (H p) f) z) (sym (eqb-true q r pair)) ∙ two_hadamards q f z (subst (λ m. q < m) (sym l) on)

@@ -3,7 +3,7 @@ use Rattle.std.proofs.Common.{◌≡◌, ℕ, ◌<◌, true, false, length, get_
 use Rattle.std.specs.List.{filter}
 use Rattle.zx_gates.specs.declared.gate.Gate.{Gate}
 use Rattle.zx_gates.specs.Circuit.{most_qubits, IsGateOn}
-use Rattle.zx_peephole.specs.Tidy.{is_pair}
+use Rattle.zx_peephole.specs.Tidy.{cancels_or_merges}
 use Rattle.zx_peephole.specs.declared.chains.Chains.{Chains}
 use Rattle.zx_peephole.specs.Internal.Chains.{is_left, gate_at, kept, left_before, next_of, IsReading}
 use Rattle.zx_peephole.specs.Internal.Marks.{meets_none}
@@ -54,21 +54,21 @@ module _ (w : Chains) (reading : IsReading w) (g : Gate) (read : g ≡ get_or w.
     abbrev last : IsLastStop g (kept w) (left_before w i)
     last = stop_of w.gates.items g w.next reading.sound.places.within i s
 
-    apart : is_pair x g ≡ false → is_pair (gate_at w.gates.items i) g ≡ false
-    apart unpaired = ap (λ y. is_pair y g) (sym here) ∙ unpaired
+    apart : cancels_or_merges x g ≡ false → cancels_or_merges (gate_at w.gates.items i) g ≡ false
+    apart unpaired = ap (λ y. cancels_or_merges y g) (sym here) ∙ unpaired
 
-    pub stops_as_pair : is_pair x g ≡ true → IsPairAt w i
+    pub stops_as_pair : cancels_or_merges x g ≡ true → IsPairAt w i
     stops_as_pair pair = record {
       first = record { before = s.before; left = s.left };
       pair = subst (λ (h : Gate). EndsPair (kept w) h (left_before w i)) same
-          (stop_is_pair (kept w) g (left_before w i) last (ap (λ y. is_pair y g) (sym here) ∙ pair));
+          (stop_is_pair (kept w) g (left_before w i) last (ap (λ y. cancels_or_merges y g) (sym here) ∙ pair));
     }
 
-    pub stops_straight : is_pair x g ≡ false → turns g x ≡ false → Tidies
+    pub stops_straight : cancels_or_merges x g ≡ false → turns g x ≡ false → Tidies
     stops_straight unpaired straight =
         tidies (stop_extends (kept w) g (left_before w i) last (apart unpaired) (ap (turns g) (sym here) ∙ straight))
 
-    pub nothing_before : is_pair x g ≡ false → IsFreeBetween w.gates.items g 0 i → Tidies
+    pub nothing_before : cancels_or_merges x g ≡ false → IsFreeBetween w.gates.items g 0 i → Tidies
     nothing_before unpaired free =
         tidies (free_stop_extends (kept w) g (left_before w i) last (apart unpaired)
         (free_of w.gates.items g i (omega arith) free))
@@ -80,17 +80,17 @@ module _ (w : Chains) (reading : IsReading w) (g : Gate) (read : g ≡ get_or w.
       abbrev last_before : IsLastStop g (filter is_left (take i w.gates.items)) (left_before w k)
       last_before = stop_of w.gates.items g i (omega (arith, within)) k r
 
-      pub stops_as_triple : turns g x ≡ true → is_pair y g ≡ true → IsTripleAt w k i
+      pub stops_as_triple : turns g x ≡ true → cancels_or_merges y g ≡ true → IsTripleAt w k i
       stops_as_triple turned pair = record {
         order = r.before;
         first = record { before = omega (arith, r.before, s.before); left = r.left };
         middle = record { before = s.before; left = s.left };
         triple = subst (λ (h : Gate). EndsTriple (kept w) h (left_before w k) (left_before w i)) same
             (stop_is_triple (kept w) g (left_before w i) last (left_before w k) last_before
-            (ap (turns g) (sym here) ∙ turned) (ap (λ z. is_pair z g) (sym first) ∙ pair));
+            (ap (turns g) (sym here) ∙ turned) (ap (λ z. cancels_or_merges z g) (sym first) ∙ pair));
       }
 
-      pub other_before : is_pair x g ≡ false → is_pair y g ≡ false → Tidies
+      pub other_before : cancels_or_merges x g ≡ false → cancels_or_merges y g ≡ false → Tidies
       other_before unpaired other =
           tidies (stops_extend (kept w) g (left_before w i) (left_before w k) last (apart unpaired) last_before
-          (ap (λ z. is_pair z g) (sym first) ∙ other))
+          (ap (λ z. cancels_or_merges z g) (sym first) ∙ other))

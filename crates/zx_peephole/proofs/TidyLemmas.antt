@@ -7,7 +7,7 @@ use Rattle.std.proofs.lemmas.List.{append-nil}
 use Rattle.zx_gates.specs.declared.gate.Gate.{Gate}
 use Rattle.zx_gates.specs.declared.gate.Gate.TheVariants.{H}
 use Rattle.zx_peephole.specs.Commuting.{commutes}
-use Rattle.zx_peephole.specs.Tidy.{is_pair, is_turned, is_off, IsTidy}
+use Rattle.zx_peephole.specs.Tidy.{cancels_or_merges, is_turned, is_off, IsTidy}
 use Rattle.zx_peephole.specs.Internal.Changes.{EndsPair, EndsTriple}
 use Rattle.zx_peephole.proofs.Cuts.{cut_cases, cut_one, cut_none, all_at, all_with}
 use Rattle.zx_peephole.proofs.CommutingLemmas.{alike, commutes_comm, commutes_off}
@@ -27,7 +27,7 @@ module _ (front middle : List Gate) (g : Gate) (tidy : IsTidy (front ++ g ∷ mi
     (free : list_all (commutes g) middle ≡ true) where
   no_pair_without : (before between after : List Gate) (a b : Gate)
       → front ++ middle ≡ before ++ a ∷ (between ++ b ∷ after)
-      → is_pair a b ≡ true → list_all (commutes a) between ≡ true → ⊥
+      → cancels_or_merges a b ≡ true → list_all (commutes a) between ≡ true → ⊥
   no_pair_without before between after a b cut merge commute =
       elim (cut_cases front middle before (between ++ b ∷ after) a cut) [
         | inl c ↦ elim (cut_cases c.rest middle between after b (sym c.second)) [
@@ -86,7 +86,7 @@ pub tidy-more : (front : List Gate) (g : Gate) → ((i : ℕ) → EndsPair front
 tidy-more front g no_pair no_triple tidy = record { no_pair = pair; no_triple = triple }
   where
     pair : (before between after : List Gate) (a b : Gate) → front ++ g ∷ [] ≡ before ++ a ∷ (between ++ b ∷ after)
-        → is_pair a b ≡ true → list_all (commutes a) between ≡ true → ⊥
+        → cancels_or_merges a b ≡ true → list_all (commutes a) between ≡ true → ⊥
     pair before between after a b cut merge commute =
         elim (cut_cases front (g ∷ []) (before ++ a ∷ between) after b (cut ∙ simp append_assoc)) [
           | inl c ↦ tidy.no_pair before between c.rest a b (c.first ∙ simp append_assoc) merge commute
@@ -98,7 +98,7 @@ tidy-more front g no_pair no_triple tidy = record { no_pair = pair; no_triple = 
                 first = a;
                 between = between;
                 cut = sym (c.first ∙ ap (λ r. front ++ r) one.0 ∙ append-nil front);
-                merge = ap (is_pair a) one.1 ∙ merge;
+                merge = ap (cancels_or_merges a) one.1 ∙ merge;
                 commute = commute;
               })
         ]

@@ -8,7 +8,7 @@ use Rattle.std.proofs.lemmas.List.{length-take-le, get_or-take, get_or-drop, len
 use Rattle.zx_gates.specs.declared.gate.Gate.{Gate}
 use Rattle.zx_gates.specs.declared.gate.Gate.TheVariants.{H, Phase, Cz, Cx, Not}
 use Rattle.zx_peephole.specs.Commuting.{is_on, are_apart, commutes}
-use Rattle.zx_peephole.specs.Tidy.{is_pair}
+use Rattle.zx_peephole.specs.Tidy.{cancels_or_merges}
 use Rattle.zx_peephole.specs.declared.finding.Walk.{Walk}
 use Rattle.zx_peephole.specs.declared.chains.Chains.{Chains}
 use Rattle.zx_peephole.specs.Internal.Chains.{nothing, is_left, gate_at, IsOn, IsLast, IsSound, link_at}
@@ -19,7 +19,7 @@ use Rattle.zx_peephole.proofs.ChainLemmas.{last-before}
 use Rattle.zx_peephole.proofs.LeftLemmas.{left_behind, left_cut, all_left_pass}
 
 -- ---- gates that share no qubit
-pair_on : (x g : Gate) → is_pair x g ≡ true → is_on (first_qubit g) x ≡ true
+pair_on : (x g : Gate) → cancels_or_merges x g ≡ true → is_on (first_qubit g) x ≡ true
 pair_on (H p) (H q) pair = pair
 pair_on (Phase p j) (Phase q k) pair = pair
 pair_on (Not p) (Not q) pair = pair
@@ -42,8 +42,8 @@ apart_from (Cx q r) x first second =
 
 apart_free : (g x : Gate) → is_on (first_qubit g) x ≡ false → is_on (second_qubit g) x ≡ false → stops g x ≡ false
 apart_free g x first second =
-    or_from (is_pair x g) (not (commutes x g))
-    (false_from_ne_true (is_pair x g) (λ pair. both_ways (is_on (first_qubit g) x) first (pair_on x g pair)))
+    or_from (cancels_or_merges x g) (not (commutes x g))
+    (false_from_ne_true (cancels_or_merges x g) (λ pair. both_ways (is_on (first_qubit g) x) first (pair_on x g pair)))
     (not_from_true (commutes x g) (commutes_comm x g ∙ apart_commutes g x (apart_from g x first second)))
 
 -- ---- a walk

@@ -10,13 +10,14 @@ use Rattle.zx_peephole.specs.Commuting.{is_on, commutes}
 
 -- Whether two gates, one right after the other, are nothing or one gate: two H or two NOT on one qubit, two Cz on the
 -- same two qubits, two Cx with the same control and target, or two phase gates on one qubit.
-abbrev pub is_pair : Gate → Gate → Bool
-is_pair (H q) (H r) = (q == r)
-is_pair (Phase q j) (Phase r k) = (q == r)
-is_pair (Cz q r) (Cz s t) = ((q == s) && (r == t)) || ((q == t) && (r == s))
-is_pair (Cx control target) (Cx other_control other_target) = (control == other_control) && (target == other_target)
-is_pair (Not q) (Not r) = (q == r)
-is_pair first second = false
+abbrev pub cancels_or_merges : Gate → Gate → Bool
+cancels_or_merges (H q) (H r) = (q == r)
+cancels_or_merges (Phase q j) (Phase r k) = (q == r)
+cancels_or_merges (Cz q r) (Cz s t) = ((q == s) && (r == t)) || ((q == t) && (r == s))
+cancels_or_merges (Cx control target) (Cx other_control other_target) =
+    (control == other_control) && (target == other_target)
+cancels_or_merges (Not q) (Not r) = (q == r)
+cancels_or_merges first second = false
 
 -- whether a gate on the qubit, between two H, is one gate with them: a half turn or NOT
 abbrev pub is_turned : ℕ → Gate → Bool
@@ -32,7 +33,7 @@ is_off q gate = not (is_on q gate)
 -- with no other gate on it between.
 pub record IsTidy (gates : List Gate) : Type 0 where
   pub no_pair : (before between after : List Gate) (first second : Gate) →
-      gates ≡ before ++ first ∷ (between ++ second ∷ after) → IsTrue (is_pair first second) →
+      gates ≡ before ++ first ∷ (between ++ second ∷ after) → IsTrue (cancels_or_merges first second) →
       IsTrue (list_all (commutes first) between) → ⊥
   pub no_triple : (qubit : ℕ) (before left right after : List Gate) (middle : Gate) →
       gates ≡ before ++ H qubit ∷ (left ++ middle ∷ (right ++ H qubit ∷ after)) → IsTrue (is_turned qubit middle) →

@@ -8,7 +8,7 @@ ghost use Rattle.zx_peephole.specs.Internal.Changes.{IsChange};
 
 use crate::chains::{Chains, first_qubit, second_qubit};
 use crate::marks::meets_none;
-use crate::pairs::{is_pair, stops, turns};
+use crate::pairs::{cancels_or_merges, stops, turns};
 use zx_gates::{Gate, Qubit};
 
 // What a gate makes with gates before it, by their places.
@@ -40,14 +40,14 @@ pub(crate) fn find(work: &Chains) -> Option<Change>
     }
     let stop = last_stop(work, gate, start(work, gate))?;
     let earlier = &work.gates[stop];
-    if is_pair(earlier, gate) {
+    if cancels_or_merges(earlier, gate) {
         return Some(Change::Pair(stop));
     }
     if !turns(gate, earlier) {
         return None;
     }
     let first = last_stop(work, gate, before(work, gate, stop))?;
-    if is_pair(&work.gates[first], gate) {
+    if cancels_or_merges(&work.gates[first], gate) {
         Some(Change::Triple(first, stop))
     } else {
         None

@@ -3,7 +3,7 @@
 ghost use Rattle.std.specs.Prelude.{◌≡◌, IsTrue};
 ghost use Rattle.std.specs.Option.{option_to_list};
 ghost use Rattle.zx_peephole.specs.Commuting.{commutes};
-ghost use Rattle.zx_peephole.specs.Tidy.{is_pair, is_turned};
+ghost use Rattle.zx_peephole.specs.Tidy.{cancels_or_merges, is_turned};
 ghost use Rattle.zx_peephole.specs.Internal.Merging.{merged, doublings, conjugated};
 ghost use Rattle.zx_peephole.specs.Internal.Stops.{stops, turns};
 
@@ -12,8 +12,8 @@ use zx_gates::{Gate, Qubit};
 use zx_model::Sixteenth;
 
 // Whether two gates, one right after the other, are nothing or one gate.
-pub(crate) fn is_pair(first: &Gate, second: &Gate) -> bool
-    ensures { result ≡ is_pair first.now second.now }
+pub(crate) fn cancels_or_merges(first: &Gate, second: &Gate) -> bool
+    ensures { result ≡ cancels_or_merges first.now second.now }
 {
     match *first {
         Gate::H(q) => matches!(*second, Gate::H(r) if q == r),
@@ -69,11 +69,11 @@ pub(crate) fn conjugated(gate: &Gate) -> Gate
 pub(crate) fn stops(gate: &Gate, earlier: &Gate) -> bool
     ensures { result ≡ stops gate.now earlier.now }
 {
-    is_pair(earlier, gate) || !commutes(earlier, gate)
+    cancels_or_merges(earlier, gate) || !commutes(earlier, gate)
 }
 
 fn is_cz_on(q: Qubit, r: Qubit, gate: &Gate) -> bool
-    ensures { result ≡ is_pair (Gate.Cz q r) gate.now }
+    ensures { result ≡ cancels_or_merges (Gate.Cz q r) gate.now }
 {
     match *gate {
         Gate::Cz(s, t) => q == s && r == t || q == t && r == s,
@@ -82,7 +82,7 @@ fn is_cz_on(q: Qubit, r: Qubit, gate: &Gate) -> bool
 }
 
 fn is_cx_on(control: Qubit, target: Qubit, gate: &Gate) -> bool
-    ensures { result ≡ is_pair (Gate.Cx control target) gate.now }
+    ensures { result ≡ cancels_or_merges (Gate.Cx control target) gate.now }
 {
     match *gate {
         Gate::Cx {

@@ -2,7 +2,7 @@
 
 ghost use Rattle.std.specs.Prelude.{◌≡◌, ◌≤◌, ◌<◌, ◌*◌, ◌^◌, pos, ◌++◌, [], ◌∷◌, length, take, count_by, IfSome, IfNone};
 ghost use Rattle.zx_model.specs.Scalar.{IsWithin};
-ghost use Rattle.zx_gates.specs.Circuit.{gate_bound};
+ghost use Rattle.zx_gates.specs.Circuit.{gate_limit};
 ghost use Rattle.zx_gates.specs.Counting.{is_two_qubit};
 ghost use Rattle.zx_gates.specs.Internal.Scalars.{scalar};
 ghost use Rattle.zx_gates.specs.Passes.{Preserves};
@@ -27,7 +27,7 @@ use zx_model::{Scalar, Sixteenth};
 /// before it that it commutes with and shares a qubit with; most Cz that meet no other look at none.
 pub fn tidy(g: &mut GateList) -> Scalar
     ensures tidy { IsTidy g.new.gates }
-    ensures kept { Preserves gate_bound g.old g.new result }
+    ensures kept { Preserves gate_limit g.old g.new result }
     // Each two H that go, with or without a gate between them, make the map half as large.
     ensures power { IsPowerOfTwo result }
     ensures length { length g.new.gates ≤ length g.old.gates }
@@ -49,7 +49,7 @@ pub fn tidy(g: &mut GateList) -> Scalar
 fn power_of_two(power: u32) -> Scalar
     requires { 2 * power < 2 ^ 32 }
     ensures value { result ≡ scalar (pos (2 * power)) 0 }
-    ensures small { IsWithin gate_bound result }
+    ensures small { IsWithin gate_limit result }
 {
     Scalar {
         root2: i64::from(2 * power),

@@ -10,10 +10,10 @@ use Rattle.zx_calculus.specs.Graph.{Graph, WellFormed}
 use Rattle.zx_calculus.specs.StepScalars.{IsSumTimes}
 use Rattle.zx_calculus.specs.Steps as calculus
 use Rattle.zx_calculus.specs.Steps.{IsRun}
-use Rattle.zx_calculus.specs.Sum.{sum}
+use Rattle.zx_calculus.specs.Sum.{graph_sum}
 use Rattle.zx_calculus.proofs.Steps.{run_odd, run_inputs_kept, run_outputs_kept, run_proportional}
 use Rattle.gflow_laws.specs.Flow.{Correction}
-use Rattle.zx_gates.specs.Circuit.{Circuit, IsOnQubits, gate_bound}
+use Rattle.zx_gates.specs.Circuit.{Circuit, IsOnQubits, gate_limit}
 use Rattle.zx_gates.specs.Maps.{amp}
 use Rattle.circuit_graph.specs.Translation.{map_scalar, translated, translated_table, written_out}
 use Rattle.circuit_graph.specs.Internal.Runs.{Translates}
@@ -58,7 +58,7 @@ begun_reduces g p h table trace s b c = record {
   well_formed = c.finishes.well_formed;
   map = run_proportional g (map step_named trace) h formed run;
   scalar = completed_times p h table trace s c g (ap (λ (k : Graph). length k.inputs) b.graph) (ap (λ (k : Graph). length k.outputs) b.graph) b.ordered
-      (subst (λ k. IsSumTimes g p.scalar k) (sym b.graph) (subst (λ t. IsSumTimes g t g) (sym b.scalar) (scaled_refl (length g.inputs) (length g.outputs) (sum g))));
+      (subst (λ k. IsSumTimes g p.scalar k) (sym b.graph) (subst (λ t. IsSumTimes g t g) (sym b.scalar) (scaled_refl (length g.inputs) (length g.outputs) (graph_sum g))));
   small = completed_small p h table trace s c;
   flow = c.finishes.flow;
   odd = run_odd g (map step_named trace) h formed run;
@@ -90,7 +90,7 @@ at_n : (n i o : ℕ) (f : List Bool → List Bool → Number) (s : Scalar) (g : 
 at_n n i o f s g wide high p = subst (λ m. IsScaled n m f s g) high (subst (λ m. IsScaled m o f s g) wide p)
 
 pub grown_whole : (c : Circuit) (p : Progress) (h : Graph) (table : List Correction) (trace : List Step) (t s : Scalar) → All (IsOnQubits c.qubits) c.gates →
-    length c.gates < gate_bound → IsWithin (4 * length c.gates) (map_scalar c.gates) → IsGrown c.qubits (written_out c.gates) none_held p →
+    length c.gates < gate_limit → IsWithin (4 * length c.gates) (map_scalar c.gates) → IsGrown c.qubits (written_out c.gates) none_held p →
     Completes p h table trace t → s ≡ product_of_scalars (map_scalar c.gates) t → GrowsTo c h table s
 grown_whole c p h table trace t s on few small grown done is = record {
   reaches = reaches;
@@ -101,9 +101,9 @@ grown_whole c p h table trace t s on few small grown done is = record {
   outputs = run_outputs_kept p.ordered.graph steps h run ∙ outputs;
   odd = subst (λ n. n ≤ odd_phases (translated c)) (reached_odd (translated c) h read.well_formed done.finishes.well_formed reaches)
       (run_odd (translated c) reaches.steps reaches.graph read.well_formed reaches.run);
-  scaled = subst (λ q. IsScaled n n (amp c.gates) q (sum h)) (sym is)
-      (scaled_trans n n (amp c.gates) (sum (translated c)) (sum h) (map_scalar c.gates) t read.scaled
-      (at_n n (length (translated c).inputs) (length (translated c).outputs) (sum (translated c)) t (sum h) read.inputs read.outputs
+  scaled = subst (λ q. IsScaled n n (amp c.gates) q (graph_sum h)) (sym is)
+      (scaled_trans n n (amp c.gates) (graph_sum (translated c)) (graph_sum h) (map_scalar c.gates) t read.scaled
+      (at_n n (length (translated c).inputs) (length (translated c).outputs) (graph_sum (translated c)) t (graph_sum h) read.inputs read.outputs
       (completed_times p h table trace t done (translated c) grown.inputs grown.outputs grown.ordered grown.sum)));
   small = subst (IsWithin most_grown_root2) (sym is)
       (within_more (4 * length c.gates + most_reduced_root2) most_grown_root2 (product_of_scalars (map_scalar c.gates) t)
@@ -131,5 +131,5 @@ grown_whole c p h table trace t s on few small grown done is = record {
     reaches : Reaches (translated c) h
     reaches = grown_reached c p.ordered.graph steps h on grown.ordered.well_formed grown.comes run
 
-    fits : (m : ℕ) → m < gate_bound → 4 * m + most_reduced_root2 ≤ most_grown_root2
+    fits : (m : ℕ) → m < gate_limit → 4 * m + most_reduced_root2 ≤ most_grown_root2
     fits m lt = omega (arith, lt)

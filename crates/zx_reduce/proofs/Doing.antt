@@ -4,7 +4,7 @@ use Rattle.std.proofs.lemmas.List.{append-nil}
 use Rattle.zx_model.specs.Scalar.{IsScaled}
 use Rattle.zx_model.proofs.Scalars.{scaled_trans}
 use Rattle.zx_calculus.specs.Graph.{Graph}
-use Rattle.zx_calculus.specs.Sum.{sum}
+use Rattle.zx_calculus.specs.Sum.{graph_sum}
 use Rattle.zx_calculus.specs.Steps.{IsRun}
 use Rattle.zx_calculus.specs.StepScalars.{step_scalar, IsSumTimes}
 use Rattle.zx_calculus.proofs.Steps.{step_sum, inputs_kept, outputs_kept}
@@ -57,8 +57,8 @@ step_times g p s q inputs outputs done ordered times =
     let o = length g.outputs in
     let t = step_scalar h (step_named s) in
     subst (λ r. IsSumTimes g r k) (sym done.scalar)
-    (scaled_trans i o (sum g) (sum h) (sum k) p.scalar t times
-    (subst (λ m. IsScaled i m (sum h) t (sum k)) outputs (subst (λ m. IsScaled m (length h.outputs) (sum h) t (sum k)) inputs
+    (scaled_trans i o (graph_sum g) (graph_sum h) (graph_sum k) p.scalar t times
+    (subst (λ m. IsScaled i m (graph_sum h) t (graph_sum k)) outputs (subst (λ m. IsScaled m (length h.outputs) (graph_sum h) t (graph_sum k)) inputs
     (step_scaled h (step_named s) k ordered.well_formed (λ x y. step_sum h (step_named s) k x y ordered.well_formed done.step)))))
 
 pub done_times : (g : Graph) (p : Progress) (steps : List Step) (q : Progress) → length p.ordered.graph.inputs ≡ length g.inputs →

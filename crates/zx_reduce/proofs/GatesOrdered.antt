@@ -1,6 +1,6 @@
 -- The order of a flow beside gates that are put behind the graph, and beside steps.
 use Rattle.std.proofs.Common.{◌≡◌, refl, sym, ◌∙◌, ap, subst, ℕ, suc, ◌<◌, ◌≤◌, true, length, arith}
-use Rattle.zx_calculus.specs.Graph.{Graph, ids, Live, WellFormed}
+use Rattle.zx_calculus.specs.Graph.{Graph, ids, IsVertex, WellFormed}
 use Rattle.zx_calculus.specs.Splits.{least_free}
 use Rattle.zx_calculus.proofs.LeastFree.{least_free-fresh}
 use Rattle.move_laws.specs.Ranks.{HasFlowBy, rank_in, ranked}
@@ -8,9 +8,9 @@ use Rattle.zx_gates.specs.Circuit.{IsOnQubits}
 use Rattle.zx_gates.specs.declared.gate.Gate.{Gate}
 use Rattle.zx_gates.specs.declared.gate.Gate.TheVariants.{H, Phase, Cz, Cx, Not}
 use Rattle.circuit_laws.specs.Peeling.{are_plain, HasPlainOutput}
-use Rattle.circuit_graph.specs.Translation.{wires, present}
+use Rattle.circuit_graph.specs.Translation.{wires, last_spider}
 use Rattle.circuit_graph.proofs.Calls.{here_live}
-use Rattle.circuit_graph.proofs.Graphs.{present_is}
+use Rattle.circuit_graph.proofs.Graphs.{last_spider_is}
 use Rattle.growing_laws.specs.Growing.{IsFree, placed}
 use Rattle.growing_laws.proofs.FlowsGrown.{spider_ranked, phase_ranked, edge_ranked}
 use Rattle.growing_laws.proofs.Peeled.{placed_formed}
@@ -44,10 +44,10 @@ ordered_spider new q here before after plain within fresh at gate ranks low high
     grown = placed new before.graph (H q)
 
     rank : ℕ → ℕ
-    rank = ranked (present before.graph q) before.high (rank_in before.ranks)
+    rank = ranked (last_spider before.graph q) before.high (rank_in before.ranks)
 
     same : (w : ℕ) → rank_in after.ranks w ≡ rank w
-    same w = ranks w ∙ ap (λ v. ranked v before.high (rank_in before.ranks) w) (sym (present_is before.graph.outputs q here at))
+    same w = ranks w ∙ ap (λ v. ranked v before.high (rank_in before.ranks) w) (sym (last_spider_is before.graph.outputs q here at))
 
 -- a gate that adds no vertex
 abbrev pub AddsNone : Gate → Type 0
@@ -89,8 +89,8 @@ ordered_gate gate none before h plain on is o = record {
 
 -- what a struct holds is what is seen of it
 module _ (inside seen : Ordered) (is : inside ≡ seen) where
-  pub there_inside : (q u : ℕ) → WellFormed seen.graph → HasPlainOutput seen.graph q u → Live inside.graph u
-  there_inside q u w at = subst (λ (o : Ordered). Live o.graph u) (sym is) (here_live seen.graph q u w at)
+  pub there_inside : (q u : ℕ) → WellFormed seen.graph → HasPlainOutput seen.graph q u → IsVertex inside.graph u
+  there_inside q u w at = subst (λ (o : Ordered). IsVertex o.graph u) (sym is) (here_live seen.graph q u w at)
 
   pub gate_inside : (gate : Gate) → AddsNone gate → (h : Graph) → are_plain seen.graph.outputs ≡ true → IsOnQubits (length seen.graph.outputs) gate →
       h ≡ placed 0 seen.graph gate → IsOrdered seen → IsOrdered (record inside { graph = h })

@@ -11,7 +11,7 @@ use Rattle.zx_gates.specs.declared.gate.Gate.{Gate}
 use Rattle.zx_gates.specs.declared.gate.Gate.TheVariants.{H, Phase, Cz, Cx, Not}
 use Rattle.circuit_laws.specs.Peeling.{HasPlainOutput}
 use Rattle.circuit_graph.specs.Translation.{written_out, by_hadamards, translated}
-use Rattle.circuit_graph.proofs.Graphs.{present_is}
+use Rattle.circuit_graph.proofs.Graphs.{last_spider_is}
 use Rattle.teleport_circuits.specs.Teleporting.{gate_at, phase_at, vertex_at, odd_gates}
 use Rattle.phase_groups.specs.Groups.{Phases, AreNone}
 use Rattle.graph_rewrites.specs.Steps.{step_named}
@@ -61,7 +61,7 @@ pub note_inside : (inside before : Progress) (is : inside ≡ before) (i n k v :
     Notes i n k before (record inside { phases = after })
 note_inside inside before is i n k v after output added =
     subst (λ (p : Progress). Notes i n k p (record inside { phases = after })) is
-    (record { same = refl; phases = subst (λ u. AreAdded i u k inside.phases after) (sym (present_is inside.ordered.graph.outputs n v output)) added })
+    (record { same = refl; phases = subst (λ u. AreAdded i u k inside.phases after) (sym (last_spider_is inside.ordered.graph.outputs n v output)) added })
 
 module _ (c : Circuit) (i : ℕ) where
   -- its phase is odd, and is held

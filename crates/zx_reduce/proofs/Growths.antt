@@ -10,7 +10,7 @@ use Rattle.zx_model.specs.Scalar.{one_scalar}
 use Rattle.zx_model.proofs.Scalars.{scaled_refl}
 use Rattle.zx_calculus.specs.Graph.{Graph, ids, WellFormed}
 use Rattle.zx_calculus.specs.Splits.{least_free}
-use Rattle.zx_calculus.specs.Sum.{sum}
+use Rattle.zx_calculus.specs.Sum.{graph_sum}
 use Rattle.zx_calculus.specs.StepScalars.{IsSumTimes}
 use Rattle.zx_calculus.proofs.LeastFree.{least_free-fresh}
 use Rattle.zx_calculus.proofs.Steps.{inputs_kept, outputs_kept}
@@ -46,7 +46,7 @@ grown_wires n p is ordered one takes steps none = record {
   comes = subst (ComesFrom n []) (sym is) (grown_begin n);
   ordered = ordered;
   sum = subst (λ h. IsSumTimes (wires n) p.scalar h) (sym is)
-      (subst (λ s. IsSumTimes (wires n) s (wires n)) (sym one) (scaled_refl (length (wires n).inputs) (length (wires n).outputs) (sum (wires n))));
+      (subst (λ s. IsSumTimes (wires n) s (wires n)) (sym one) (scaled_refl (length (wires n).inputs) (length (wires n).outputs) (graph_sum (wires n))));
   inputs = ap (λ (h : Graph). length h.inputs) is;
   outputs = ap (λ (h : Graph). length h.outputs) is;
   takes_gates = takes;

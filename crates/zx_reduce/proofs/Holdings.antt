@@ -13,7 +13,7 @@ use Rattle.zx_calculus.proofs.Ids.{by_test, by_equal, and-left, member-append, m
 use Rattle.zx_gates.specs.Circuit.{Circuit, IsCircuit, is_odd_phase}
 use Rattle.zx_gates.specs.declared.gate.Gate.{Gate}
 use Rattle.zx_gates.specs.declared.gate.Gate.TheVariants.{H, Phase}
-use Rattle.circuit_graph.specs.Translation.{wires, with_gate, written_out, by_hadamards, phase_vertex, places_from, present}
+use Rattle.circuit_graph.specs.Translation.{wires, with_gate, written_out, by_hadamards, phase_vertex, places_from, last_spider}
 use Rattle.teleport_laws.specs.Spots.{moved}
 use Rattle.teleport_laws.proofs.Forwards.{later_spot}
 use Rattle.teleport_circuits.specs.Circuits.{phase_in}
@@ -68,16 +68,16 @@ of_more {P} gates i all one j there =
     last true t = refl
     last false t = t
 
-pub held_more : (held : Held) (g h : Graph) (r : Reaches g h) (i n k : ℕ) → IsAtOutput g h r n → held.vertex_of i ≡ present g n → held.phase i ≡ k → i < held.count →
-    ((j : ℕ) → member j held.gates ≡ true → j < i) → (a b : Option Phases) → AreAdded i (present h n) k a b → MayBeHeld held g h r a → MayBeHeld (one_held held i) g h r b
+pub held_more : (held : Held) (g h : Graph) (r : Reaches g h) (i n k : ℕ) → IsAtOutput g h r n → held.vertex_of i ≡ last_spider g n → held.phase i ≡ k → i < held.count →
+    ((j : ℕ) → member j held.gates ≡ true → j < i) → (a b : Option Phases) → AreAdded i (last_spider h n) k a b → MayBeHeld held g h r a → MayBeHeld (one_held held i) g h r b
 held_more held g h r i n k out vertex phase room behind None b added m = subst (MayBeHeld (one_held held i) g h r) (sym added) m
 held_more held g h r i n k out vertex phase room behind (Some p) None added m = absurd added
 held_more held g h r i n k out vertex phase room behind (Some p) (Some q) added m = record {
   below = m.below;
-  count = added-count i (present h n) k p q added ∙ m.count;
+  count = added-count i (last_spider h n) k p q added ∙ m.count;
   live = of_more held.gates i m.live (subst (λ v. Lives v) (sym vertex) out.lives);
-  agrees = agrees-gate held.phase m.below held.gates (λ j. reached_spot g h r (held.vertex_of j)) p q i (present h n) m.agrees behind
-      (let all = m.count in omega (arith, room, all)) (ap (reached_spot g h r) vertex ∙ out.spot) (subst (λ j. IsAdded i (present h n) j p q) (sym phase) added);
+  agrees = agrees-gate held.phase m.below held.gates (λ j. reached_spot g h r (held.vertex_of j)) p q i (last_spider h n) m.agrees behind
+      (let all = m.count in omega (arith, room, all)) (ap (reached_spot g h r) vertex ∙ out.spot) (subst (λ j. IsAdded i (last_spider h n) j p q) (sym phase) added);
 }
   where
     Lives : ℕ → Type 0
@@ -126,10 +126,10 @@ places_at g (first ∷ gates) (suc i) gate within is =
     places_at (fold with_gate g (by_hadamards first)) gates i gate (omega (arith, within)) is
     ∙ ap (λ h. phase_vertex h gate) (sym (fold-append with_gate g (by_hadamards first) (written_out (take i gates))))
 
-pub vertex_here : (c : Circuit) (i q k : ℕ) → i < length c.gates → gate_at c i ≡ Phase q k → vertex_at c i ≡ present (graph_of_gates c.qubits (written_out (take i c.gates) ++ Phase q k ∷ [])) q
+pub vertex_here : (c : Circuit) (i q k : ℕ) → i < length c.gates → gate_at c i ≡ Phase q k → vertex_at c i ≡ last_spider (graph_of_gates c.qubits (written_out (take i c.gates) ++ Phase q k ∷ [])) q
 vertex_here c i q k within is =
     ap place_number (places_at (wires c.qubits) c.gates i (Phase q k) within (sym is))
-    ∙ ap (λ g. present g q) (sym (fold-append with_gate (wires c.qubits) (written_out (take i c.gates)) (Phase q k ∷ [])))
+    ∙ ap (λ g. last_spider g q) (sym (fold-append with_gate (wires c.qubits) (written_out (take i c.gates)) (Phase q k ∷ [])))
 
 -- no gate yet
 pub held_none : (c : Circuit) → IsCircuit c → (g h : Graph) (r : Reaches g h) (p : Phases) → AreNone (length c.gates) p → MayBeHeld (held_of c 0) g h r (Some p)
@@ -142,7 +142,7 @@ held_none c formed g h r p none = record {
 
 -- the next gate, of an odd phase
 pub held_next : (c : Circuit) (g h : Graph) (r : Reaches g h) (i n k : ℕ) → i < length c.gates → gate_at c i ≡ Phase n k → is_odd k ≡ true →
-    IsAtOutput g h r n → vertex_at c i ≡ present g n → (a b : Option Phases) → AreAdded i (present h n) k a b →
+    IsAtOutput g h r n → vertex_at c i ≡ last_spider g n → (a b : Option Phases) → AreAdded i (last_spider h n) k a b →
     MayBeHeld (held_of c i) g h r a → MayBeHeld (held_of c (i + 1)) g h r b
 held_next c g h r i n k within is odd out vertex a b added m =
     subst (λ gates. MayBeHeld (record (held_of c i) { gates = gates }) g h r b) (sym (picked-one (λ j. is_odd_phase (gate_at c j)) i (ap is_odd_phase is ∙ odd)))

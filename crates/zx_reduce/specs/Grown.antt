@@ -7,7 +7,7 @@ use Rattle.zx_model.specs.declared.scalar.Scalar.{Scalar}
 use Rattle.zx_calculus.specs.Counts.{odd_phases}
 use Rattle.zx_calculus.specs.Graph.{Graph, WellFormed}
 use Rattle.zx_calculus.specs.Reduced.{IsReduced}
-use Rattle.zx_calculus.specs.Sum.{sum}
+use Rattle.zx_calculus.specs.Sum.{graph_sum}
 use Rattle.gflow_laws.specs.Flow.{Correction, IsFlow}
 use Rattle.zx_gates.specs.Circuit.{Circuit}
 use Rattle.zx_gates.specs.Maps.{amp}
@@ -28,5 +28,5 @@ pub record GrowsTo (c : Circuit) (h : Graph) (table : List Correction) (s : Scal
   pub inputs : length h.inputs ≡ c.qubits
   pub outputs : length h.outputs ≡ c.qubits
   pub odd : odd_phases h ≤ odd_phases (translated c)
-  pub scaled : IsScaled c.qubits c.qubits (amp c.gates) s (sum h)
+  pub scaled : IsScaled c.qubits c.qubits (amp c.gates) s (graph_sum h)
   pub small : IsWithin most_grown_root2 s

@@ -73,7 +73,7 @@ impl Ordered {
     }
 
     /// The vertex at the output of a qubit.
-    pub(crate) fn present(&self, q: Qubit) -> VertexId
+    pub(crate) fn last_spider(&self, q: Qubit) -> VertexId
         requires plain { are_plain self.now.graph.outputs ≡ true }
         requires on_qubits { q < length self.now.graph.outputs }
         ensures value { HasPlainOutput self.now.graph q result }
@@ -91,7 +91,7 @@ impl Ordered {
         ensures gate { IfOk result (λ new. self.new.graph ≡ placed new self.old.graph (H q)) }
         ensures ordered { OnOk result (IsOrdered self.old → IsOrdered self.new) }
     {
-        let here = self.present(q);
+        let here = self.last_spider(q);
         let next = self.graph.add_vertex(Plane::XY, Sixteenth::new(0))?;
         self.graph.toggle_edge(here, next)?;
         self.graph.move_output(usize::from(q), End::plain(next));
@@ -107,7 +107,7 @@ impl Ordered {
         ensures gate { self.new.graph ≡ placed 0 self.old.graph (Phase q phase) }
         ensures ordered { IsOrdered self.old → IsOrdered self.new }
     {
-        let here = self.present(q);
+        let here = self.last_spider(q);
         let (plane, before) = self.graph.weight(here);
         self.graph.set_weight(here, plane, before.add(phase));
     }
@@ -121,8 +121,8 @@ impl Ordered {
         ensures gate { OnOk result (self.new.graph ≡ placed 0 self.old.graph (Cz p q)) }
         ensures ordered { OnOk result (IsOrdered self.old → IsOrdered self.new) }
     {
-        let first = self.present(p);
-        let second = self.present(q);
+        let first = self.last_spider(p);
+        let second = self.last_spider(q);
         self.graph.toggle_edge(first, second)
     }
 

@@ -1,6 +1,6 @@
 //! Which steps are tried at a vertex.
 
-ghost use Rattle.zx_calculus.specs.Graph.{Live};
+ghost use Rattle.zx_calculus.specs.Graph.{IsVertex};
 
 use crate::levels::{LEVELS, level_in};
 use crate::twins::Twins;
@@ -69,14 +69,14 @@ pub(crate) fn plan_between(g: &OpenGraph, u: VertexId, last: VertexId) -> Option
 
 // Whether a vertex may be moved along its wire at once.
 fn may_move(g: &OpenGraph, v: VertexId) -> bool
-    requires { Live g.now.graph v }
+    requires { IsVertex g.now.graph v }
 {
     g.is_interior(v) && g.degree(v) <= MOST_MOVED
 }
 
 // A spider of a quarter turn goes by a local complement, one of half turns by a pivot.
 fn spider_plan(g: &OpenGraph, u: VertexId, phase: Sixteenth, setting: Setting<'_>) -> Plan
-    requires { Live g.now.graph u }
+    requires { IsVertex g.now.graph u }
 {
     if phase.is_odd() {
         return Plan::Nothing;
@@ -97,7 +97,7 @@ fn spider_plan(g: &OpenGraph, u: VertexId, phase: Sixteenth, setting: Setting<'_
 
 // A gadget goes where its phase is even, and is fused where it can be.
 fn gadget_plan(g: &OpenGraph, u: VertexId, phase: Sixteenth, twins: &mut Twins) -> Plan
-    requires { Live g.now.graph u }
+    requires { IsVertex g.now.graph u }
 {
     if phase.is_half_turns() {
         return Plan::Steps(Step::Delete(u), None);
@@ -131,7 +131,7 @@ enum Partner {
 
 // Of the partners of a vertex the one whose pivot costs least.
 fn partner_of(g: &OpenGraph, u: VertexId, setting: Setting<'_>) -> Partner
-    requires { Live g.now.graph u }
+    requires { IsVertex g.now.graph u }
 {
     let own = level_in(setting.levels, u);
     let mut best = None;
@@ -159,7 +159,7 @@ fn partner_of(g: &OpenGraph, u: VertexId, setting: Setting<'_>) -> Partner
 // At which level a neighbour of a vertex of a level may be its partner: one with an output later, while gates come,
 // any other one with an end never.
 fn level_beside(g: &OpenGraph, v: VertexId, setting: Setting<'_>, own: usize) -> usize
-    requires { Live g.now.graph v }
+    requires { IsVertex g.now.graph v }
 {
     if g.is_interior(v) {
         return level_in(setting.levels, v);

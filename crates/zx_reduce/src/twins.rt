@@ -1,6 +1,6 @@
 //! Gadgets of the same neighbours.
 
-ghost use Rattle.zx_calculus.specs.Graph.{Live};
+ghost use Rattle.zx_calculus.specs.Graph.{IsVertex};
 
 use graph_rewrites::is_gadget;
 use open_graph::{OpenGraph, VertexId};
@@ -31,7 +31,7 @@ impl Twins {
     // A gadget that was looked at and has the neighbours of this one. Where there is none, this one is
     // remembered.
     pub(crate) fn find(&mut self, g: &OpenGraph, u: VertexId) -> Option<VertexId>
-        requires { Live g.now.graph u }
+        requires { IsVertex g.now.graph u }
     {
         let place = place_of(g, u, self.gadgets.len());
         let remembered = self.gadgets.get_mut(place)?;
@@ -67,14 +67,14 @@ fn are_twins(g: &OpenGraph, u: VertexId, v: VertexId) -> bool {
 
 // The place that the neighbours of a vertex tell, of so many.
 fn place_of(g: &OpenGraph, u: VertexId, places: usize) -> usize
-    requires { Live g.now.graph u }
+    requires { IsVertex g.now.graph u }
 {
     key_of(g, u) as usize % places.max(1)
 }
 
 // A number that the neighbours of a vertex tell.
 fn key_of(g: &OpenGraph, u: VertexId) -> u64
-    requires { Live g.now.graph u }
+    requires { IsVertex g.now.graph u }
 {
     let mut key: u64 = 0;
     for v in g.neighbours(u) {

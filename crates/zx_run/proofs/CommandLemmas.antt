@@ -10,7 +10,7 @@ use Rattle.zx_run.proofs.FaultLemmas.{one_first_fault, not_faultless}
 use Rattle.zx_run.specs.Comparing.{AreDifferent, IsDifference}
 use Rattle.zx_run.proofs.DiagramLemmas.{one_diagram_fault, no_diagram_fault, one_square_fault, no_square_fault}
 use Rattle.zx_run.proofs.TwoTextsLemmas.{one_fault_of_two, not_accepted_two}
-use Rattle.zx_run.proofs.FileLemmas.{one_file_fault, file_or_fault, has_no_flow}
+use Rattle.zx_run.proofs.FileLemmas.{one_file_fault, file_or_fault, holds_no_flow}
 
 -- a text has one first fault at most
 pub one_fault : (command : Command) (text : List ℕ) (f g : Fault) → IsFirstFaultFor command text f → IsFirstFaultFor command text g → f ≡ g
@@ -62,8 +62,8 @@ pub no_answers : (command : Command) (left : Option (List ℕ)) (bytes text : Li
     → IsFaultlessFor command text × MayAnswer command text No
 no_answers (Optimise best report scalar) left bytes text output told = absurd output
 no_answers Teleport left bytes text output told = absurd output
-no_answers Reduce left bytes text output told = let no_flow = has_no_flow text bytes (output text told) in (no_flow.0, inr (refl, no_flow))
-no_answers Flow left bytes text output told = let no_flow = has_no_flow text bytes (output text told) in (no_flow.0, inr (refl, no_flow))
+no_answers Reduce left bytes text output told = let no_flow = holds_no_flow text bytes (output text told) in (no_flow.0, inr (refl, no_flow))
+no_answers Flow left bytes text output told = let no_flow = holds_no_flow text bytes (output text told) in (no_flow.0, inr (refl, no_flow))
 no_answers Graph left bytes text output told = absurd output
 no_answers Compile left bytes text output told =
     let is = output text told in ((is.diagram, is.file, is.square), (is.diagram, is.file, is.square, inr (refl, is.no_flow)))

@@ -6,7 +6,7 @@ use Rattle.zx_model.proofs.ProportionalLemmas.{proportional_sym, proportional_tr
 use Rattle.zx_calculus.specs.Counts.{odd_phases}
 use Rattle.flow_find.specs.Stuck.{HasFlow}
 use Rattle.zx_diagram.specs.Diagram.{Diagram}
-use Rattle.zx_diagram.specs.Sum.{sum}
+use Rattle.zx_diagram.specs.Sum.{diagram_sum}
 use Rattle.zx_gates.specs.Circuit.{Circuit, IsCircuit, gate_odd_phases}
 use Rattle.zx_gates.specs.ElementaryMaps.{amp_elementary}
 use Rattle.zx_gates.specs.Maps.{amp}
@@ -31,7 +31,7 @@ none_behind circuit = record { few_bits = omega arith; within = search rules; on
 pub IsCompiledText-written : (text bytes : List ℕ) (diagram : Diagram) (circuit : Circuit)
     → IsDiagramFile text diagram → IsSquare diagram → HasForm diagram HasFlow → bytes ≡ written circuit 0 []
     → circuit.qubits ≡ length diagram.inputs
-    → Proportional (length diagram.inputs) (length diagram.inputs) (sum diagram) (amp circuit.gates)
+    → Proportional (length diagram.inputs) (length diagram.inputs) (diagram_sum diagram) (amp circuit.gates)
     → HasForm diagram (λ form. gate_odd_phases circuit.gates ≤ odd_phases form)
     → HasForm diagram (λ form. length circuit.gates ≤ gate_bound (length diagram.inputs) (odd_phases form))
     → IsCircuit circuit → IsTidy circuit.gates → HasForm diagram (λ form. IsThroughReduced form circuit)
@@ -51,7 +51,7 @@ IsCompiledText-written text bytes diagram circuit file square flow spelled as_ma
       has_flow = flow;
       spelled = spelled;
       means = record { program = w.program; is = w.is; means = subst (λ k. Means w.program k again 0 []) as_many w.means };
-      same_map = proportional_trans n n (sum diagram) (amp circuit.gates) (amp_elementary again) map back;
+      same_map = proportional_trans n n (diagram_sum diagram) (amp circuit.gates) (amp_elementary again) map back;
       no_more_odd = (odd.0, odd.1, subst (λ t. t ≤ odd_phases odd.0) (sym (odd_elements circuit.qubits circuit.gates is.on_qubits)) odd.2);
       few_gates = (few.0, few.1, subst (λ size. size ≤ gate_bound n (odd_phases few.0)) (sym w.size) few.2);
       valid = is;
@@ -64,7 +64,7 @@ pub IsCompiledText-made : (text bytes : List ℕ) (diagram : Diagram) (made : Co
     → IsDiagramFile text diagram → IsSquare diagram → bytes ≡ written circuit 0 [] → IsCircuit circuit
     → IfCircuit made (λ c. HasForm diagram HasFlow)
     → IfCircuit made (λ c. c.qubits ≡ length diagram.inputs)
-    → IfCircuit made (λ c. Proportional (length diagram.inputs) (length diagram.inputs) (sum diagram) (amp c.gates))
+    → IfCircuit made (λ c. Proportional (length diagram.inputs) (length diagram.inputs) (diagram_sum diagram) (amp c.gates))
     → IfCircuit made (λ c. HasForm diagram (λ form. gate_odd_phases c.gates ≤ odd_phases form))
     → IfCircuit made (λ c. HasForm diagram (λ form. length c.gates ≤ gate_bound (length diagram.inputs) (odd_phases form)))
     → IfCircuit made (λ c. IsTidy c.gates)

@@ -5,7 +5,7 @@ use Rattle.gflow_laws.specs.Flow.{Correction, IsFlow}
 use Rattle.zx_text.proofs.StopLemmas.{no_file, one_bad_line, one_file}
 use Rattle.zx_run.specs.declared.status.Fault.{Fault}
 use Rattle.zx_run.specs.declared.status.Fault.TheVariants.{BadLine}
-use Rattle.zx_run.specs.FlowFiles.{IsFirstFileFault, IsFileOf, IsFlowFile, HasNoFlow, IsNoText}
+use Rattle.zx_run.specs.FlowFiles.{IsFirstFileFault, IsFileOf, IsFlowFile, HoldsNoFlow, IsNoText}
 
 pub one_file_fault : (text : List ℕ) (f g : Fault) → IsFirstFileFault text f → IsFirstFileFault text g → f ≡ g
 one_file_fault text f g (inl a) (inl b) = a.1 ∙ sym b.1
@@ -26,8 +26,8 @@ other_flow text graph other table such file also flow =
     let table_same : such ≡ table = let e : ◌≡◌ {A = Option (List Correction)} (Some such) (Some table) = same.1 in cc in
     subst (λ g. IsFlow g table) same.0 (subst (IsFlow other) table_same flow)
 
-pub has_no_flow : (text bytes : List ℕ) → IsNoText text bytes → HasNoFlow text
-has_no_flow text bytes is = (
+pub holds_no_flow : (text bytes : List ℕ) → IsNoText text bytes → HoldsNoFlow text
+holds_no_flow text bytes is = (
   (is.graph, is.table, is.file),
   λ has. is.no_flow (other_flow text is.graph has.0 is.table has.1 is.file has.2 has.3),
 )

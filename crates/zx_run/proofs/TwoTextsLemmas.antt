@@ -18,7 +18,7 @@ use Rattle.zx_run.specs.declared.status.Status.{Status}
 use Rattle.zx_run.specs.declared.status.Status.TheVariants.{Done, Refused, Usage, ReadFault, WriteFault, NoMemory, No}
 use Rattle.zx_run.specs.Internal.ErrorAnswers.{answer_to_text_error}
 use Rattle.zx_run.specs.FirstFault.{most_bytes, fault_of, IsAccepted, IsFaultless, IsFirstFault}
-use Rattle.zx_run.specs.TwoTexts.{parting_line, second_place, IsParted, AreTexts, moved, IsFaultOfEither, IsFirstFaultOfTwo, AreAccepted}
+use Rattle.zx_run.specs.TwoTexts.{parting_line, second_place, IsParted, AreTexts, shifted_fault, IsFaultOfEither, IsFirstFaultOfTwo, AreAccepted}
 use Rattle.zx_run.specs.Internal.Refusals.{IsFaultFrom, IsRefusalFor, moved_answer, moved_error}
 use Rattle.zx_run.proofs.FaultLemmas.{one_first_fault, not_faultless, one_circuit, accepted_or_fault}
 use Rattle.zx_run.proofs.RefusalLemmas.{refused_by}
@@ -28,7 +28,7 @@ use Rattle.zx_run.proofs.PartingLemmas.{same_texts, from_on, parted_or_not, AreS
 from_start : (at : ℕ) → 0 + at ≡ at
 from_start at = omega arith
 
-pub moved_nowhere : (fault : Fault) → moved 0 fault ≡ fault
+pub moved_nowhere : (fault : Fault) → shifted_fault 0 fault ≡ fault
 moved_nowhere TooLong = refl
 moved_nowhere (BadByte at) = ap BadByte (from_start at)
 moved_nowhere (Syntax at) = ap Syntax (from_start at)
@@ -56,7 +56,7 @@ moved_nowhere (TooManyBits at) = ap TooManyBits (from_start at)
 moved_nowhere NotSquare = refl
 moved_nowhere NoSecond = refl
 
-moved_cause : (by at : ℕ) (what : Cause) → fault_of what (by + at) ≡ moved by (fault_of what at)
+moved_cause : (by at : ℕ) (what : Cause) → fault_of what (by + at) ≡ shifted_fault by (fault_of what at)
 moved_cause by at cause.Version = refl
 moved_cause by at cause.Include = refl
 moved_cause by at cause.Unsupported = refl
@@ -115,7 +115,7 @@ either_fault first second this that (inl a) (inl b) = one_first_fault first this
 either_fault first second this that (inl a) (inr b) = absurd (not_faultless first this a b.0)
 either_fault first second this that (inr a) (inl b) = absurd (not_faultless first that b a.0)
 either_fault first second this that (inr a) (inr b) =
-    a.1.2 ∙ ap (moved (second_place first)) (one_first_fault second a.1.0 b.1.0 a.1.1 b.1.1) ∙ sym b.1.2
+    a.1.2 ∙ ap (shifted_fault (second_place first)) (one_first_fault second a.1.0 b.1.0 a.1.1 b.1.1) ∙ sym b.1.2
 
 short_fault : (text : List ℕ) (this that : Fault)
     → (((first second : List ℕ) → IsParted text first second → ⊥) × (this ≡ NoSecond))
@@ -163,7 +163,7 @@ parts_decided : (text first second : List ℕ) → length text ≤ most_bytes �
     → IsFaultless second ⊎ ((fault : Fault) × IsFirstFault second fault) → IsDecided text
 parts_decided text first second short texts (inr (fault, is)) b = inr (fault, inr (short, inr (first, second, texts, inl is)))
 parts_decided text first second short texts (inl a) (inr (fault, is)) =
-    inr (moved (second_place first) fault, inr (short, inr (first, second, texts, inr (a, (fault, is, refl)))))
+    inr (shifted_fault (second_place first) fault, inr (short, inr (first, second, texts, inr (a, (fault, is, refl)))))
 parts_decided text first second short texts (inl (one, a)) (inl (other, b)) =
     inl (one, other, record { short = short; first = first; second = second; texts = texts; first_means = a; second_means = b })
 

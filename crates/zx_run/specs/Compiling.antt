@@ -5,7 +5,7 @@ use Rattle.zx_model.specs.Proportional.{Proportional}
 use Rattle.zx_calculus.specs.Counts.{odd_phases}
 use Rattle.flow_find.specs.Stuck.{HasFlow, IsLargestStuck}
 use Rattle.zx_diagram.specs.Diagram.{Diagram}
-use Rattle.zx_diagram.specs.Sum.{sum}
+use Rattle.zx_diagram.specs.Sum.{diagram_sum}
 use Rattle.zx_gates.specs.Circuit.{Circuit, IsCircuit}
 use Rattle.zx_gates.specs.Elementary.{elementary_odd_phases}
 use Rattle.zx_gates.specs.ElementaryMaps.{amp_elementary}
@@ -32,7 +32,7 @@ pub record IsCompiledText (text bytes : List ℕ) : Type 0 where
   pub spelled : bytes ≡ written circuit 0 []
   -- what the text means
   pub means : TextMeans (written circuit 0 []) (length diagram.inputs) (elements_of circuit.gates) 0 []
-  pub same_map : Proportional (length diagram.inputs) (length diagram.inputs) (sum diagram)
+  pub same_map : Proportional (length diagram.inputs) (length diagram.inputs) (diagram_sum diagram)
       (amp_elementary (elements_of circuit.gates))
   pub no_more_odd : HasForm diagram (λ form. elementary_odd_phases (elements_of circuit.gates) ≤ odd_phases form)
   pub few_gates : HasForm diagram (λ form.

@@ -2,9 +2,9 @@
 use Rattle.std.specs.Prelude.{◌≡◌, ◌<◌, ◌≤◌, ◌⊎◌, ℕ, List, length, None}
 use Rattle.zx_model.specs.Proportional.{Proportional}
 use Rattle.zx_calculus.specs.Graph.{Graph}
-use Rattle.zx_calculus.specs.Sum as graph
+use Rattle.zx_calculus.specs.Sum.{graph_sum}
 use Rattle.zx_diagram.specs.Diagram.{Diagram}
-use Rattle.zx_diagram.specs.Sum.{sum}
+use Rattle.zx_diagram.specs.Sum.{diagram_sum}
 use Rattle.graph_like.specs.LikeForm.{IsLikeForm}
 use Rattle.zx_text.specs.Files.{Two, spelled}
 use Rattle.diagram_text.specs.Reading.{SpellsDiagram, IsBadLine}
@@ -40,5 +40,5 @@ pub record IsGraphText (text bytes : List ℕ) : Type 0 where
   pub file : IsDiagramFile text diagram
   pub form : Graph
   pub is_form : IsLikeForm diagram form
-  pub same_map : Proportional (length diagram.inputs) (length diagram.outputs) (sum diagram) (graph.sum form)
+  pub same_map : Proportional (length diagram.inputs) (length diagram.outputs) (diagram_sum diagram) (graph_sum form)
   pub spelled : bytes ≡ spelled Two form None

@@ -36,16 +36,16 @@ abbrev pub IsFlowFile : List ℕ → Type 0
 IsFlowFile text = (graph : Graph) × (table : List Correction) × IsFileOf text graph table
 
 -- the text is such a file, and its table is a flow of the graph
-abbrev pub HasFlow : List ℕ → Type 0
-HasFlow text = (graph : Graph) × (table : List Correction) × IsFileOf text graph table × IsFlow graph table
+abbrev pub HoldsFlow : List ℕ → Type 0
+HoldsFlow text = (graph : Graph) × (table : List Correction) × IsFileOf text graph table × IsFlow graph table
 
 -- the text is such a file, but its table isn't a flow of the graph
-abbrev pub HasNoFlow : List ℕ → Type 0
-HasNoFlow text = IsFlowFile text × (HasFlow text → ⊥)
+abbrev pub HoldsNoFlow : List ℕ → Type 0
+HoldsNoFlow text = IsFlowFile text × (HoldsFlow text → ⊥)
 
 -- the answer is Done where the table is a flow, and No where it isn't
 abbrev pub IsVerdictOn : List ℕ → Status → Type 0
-IsVerdictOn text status = ((status ≡ Done) × HasFlow text) ⊎ ((status ≡ No) × HasNoFlow text)
+IsVerdictOn text status = ((status ≡ Done) × HoldsFlow text) ⊎ ((status ≡ No) × HoldsNoFlow text)
 
 -- ---- what is written
 

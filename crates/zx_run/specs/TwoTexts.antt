@@ -29,35 +29,35 @@ abbrev pub second_place : List ℕ → ℕ
 second_place first = length first + length parting_line
 
 -- the fault of a text that stands so many bytes further on, with its place in the whole
-abbrev pub moved : ℕ → Fault → Fault
-moved by (BadByte at) = BadByte (by + at)
-moved by (TooDeep at) = TooDeep (by + at)
-moved by (Syntax at) = Syntax (by + at)
-moved by (Include at) = Include (by + at)
-moved by (Unsupported at) = Unsupported (by + at)
-moved by (Redeclared at) = Redeclared (by + at)
-moved by (EmptyRegister at) = EmptyRegister (by + at)
-moved by (TooManyQubits at) = TooManyQubits (by + at)
-moved by (Unknown at) = Unknown (by + at)
-moved by (WrongCount at) = WrongCount (by + at)
-moved by (Index at) = Index (by + at)
-moved by (Sizes at) = Sizes (by + at)
-moved by (SameQubit at) = SameQubit (by + at)
-moved by (Divide at) = Divide (by + at)
-moved by (AngleTooLarge at) = AngleTooLarge (by + at)
-moved by (NotSixteenthTurn at) = NotSixteenthTurn (by + at)
-moved by (TooManyGates at) = TooManyGates (by + at)
-moved by (SecondVersion at) = SecondVersion (by + at)
-moved by (AfterMeasure at) = AfterMeasure (by + at)
-moved by (BitTwice at) = BitTwice (by + at)
-moved by (TooManyBits at) = TooManyBits (by + at)
-moved by fault = fault
+abbrev pub shifted_fault : ℕ → Fault → Fault
+shifted_fault by (BadByte at) = BadByte (by + at)
+shifted_fault by (TooDeep at) = TooDeep (by + at)
+shifted_fault by (Syntax at) = Syntax (by + at)
+shifted_fault by (Include at) = Include (by + at)
+shifted_fault by (Unsupported at) = Unsupported (by + at)
+shifted_fault by (Redeclared at) = Redeclared (by + at)
+shifted_fault by (EmptyRegister at) = EmptyRegister (by + at)
+shifted_fault by (TooManyQubits at) = TooManyQubits (by + at)
+shifted_fault by (Unknown at) = Unknown (by + at)
+shifted_fault by (WrongCount at) = WrongCount (by + at)
+shifted_fault by (Index at) = Index (by + at)
+shifted_fault by (Sizes at) = Sizes (by + at)
+shifted_fault by (SameQubit at) = SameQubit (by + at)
+shifted_fault by (Divide at) = Divide (by + at)
+shifted_fault by (AngleTooLarge at) = AngleTooLarge (by + at)
+shifted_fault by (NotSixteenthTurn at) = NotSixteenthTurn (by + at)
+shifted_fault by (TooManyGates at) = TooManyGates (by + at)
+shifted_fault by (SecondVersion at) = SecondVersion (by + at)
+shifted_fault by (AfterMeasure at) = AfterMeasure (by + at)
+shifted_fault by (BitTwice at) = BitTwice (by + at)
+shifted_fault by (TooManyBits at) = TooManyBits (by + at)
+shifted_fault by fault = fault
 
 -- the first fault of the first text, or where it has none, of the second, with its place in the whole
 abbrev pub IsFaultOfEither : List ℕ → List ℕ → Fault → Type 0
 IsFaultOfEither first second fault =
     IsFirstFault first fault
-    ⊎ (IsFaultless first × ((own : Fault) × IsFirstFault second own × (fault ≡ moved (second_place first) own)))
+    ⊎ (IsFaultless first × ((own : Fault) × IsFirstFault second own × (fault ≡ shifted_fault (second_place first) own)))
 
 -- The first fault of a text that is to be two: it is too long as a whole; or no line parts it; or one of the two has a
 -- fault.

@@ -11,7 +11,7 @@ use Rattle.zx_model.proofs.ProportionalLemmas.{proportional_of_scaled}
 use Rattle.zx_model.proofs.Ring.{one-mul, one_nonzero}
 use Rattle.zx_model.proofs.SumLemmas.{sum_over_same}
 use Rattle.zx_calculus.specs.Graph.{XY, XZ, YZ, Plane, Kind, End, Graph, ids, kind_of, joined, neighbours, is_XY, is_interior, phase_of, end_vertices, in_order, different, WellFormed}
-use Rattle.zx_calculus.specs.Sum.{factor, factor_in, sum}
+use Rattle.zx_calculus.specs.Sum.{factor, factor_in, graph_sum}
 use Rattle.zx_calculus.proofs.Edges.{joined_comm}
 use Rattle.zx_calculus.proofs.Forms.{sum_is_form}
 use Rattle.zx_calculus.proofs.Ids.{and-left, and-right, not-true, by_test, eqb-self, member-different, member-there}
@@ -215,14 +215,14 @@ module _ (g : Graph) (w : WellFormed g) (bare : is_bare g ≡ true) where
       w.inputs.one_each w.outputs.one_each (λ u t. t) (λ u t. t))
       holds
 
-  sum_summand : (x y : List Bool) → sum g x y ≡ sum_over (ids g.vertices) (summand (joined g.edges) (ids g.vertices) g.inputs g.outputs x y)
+  sum_summand : (x y : List Bool) → graph_sum g x y ≡ sum_over (ids g.vertices) (summand (joined g.edges) (ids g.vertices) g.inputs g.outputs x y)
   sum_summand x y =
       sum_is_form g x y w
       ∙ sum_over_same (ids g.vertices) _ _
       (λ label. ap (λ p. mul p (summand (joined g.edges) (ids g.vertices) g.inputs g.outputs x y label)) (vertex_product-one g.vertices label (distinct g w) ones)
       ∙ one-mul _)
 
-  pub bare_identity : Proportional (length g.inputs) (length g.inputs) (sum g) (amp [])
+  pub bare_identity : Proportional (length g.inputs) (length g.inputs) (graph_sum g) (amp [])
   bare_identity =
-      proportional_of_scaled (length g.inputs) (length g.inputs) (sum g) (amp []) one identity.factor one_nonzero identity.nonzero
-      (λ x y lx ly. one-mul (sum g x y) ∙ sum_summand x y ∙ identity.equal x y lx ly)
+      proportional_of_scaled (length g.inputs) (length g.inputs) (graph_sum g) (amp []) one identity.factor one_nonzero identity.nonzero
+      (λ x y lx ly. one-mul (graph_sum g x y) ∙ sum_summand x y ∙ identity.equal x y lx ly)

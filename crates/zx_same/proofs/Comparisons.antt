@@ -10,7 +10,7 @@ use Rattle.zx_model.proofs.Odd.{is_odd-opposite}
 use Rattle.zx_model.proofs.Scalars.{scaled_proportional}
 use Rattle.zx_model.proofs.ProportionalLemmas.{proportional_trans}
 use Rattle.zx_calculus.specs.Graph.{Graph, WellFormed}
-use Rattle.zx_calculus.specs.Sum.{sum}
+use Rattle.zx_calculus.specs.Sum.{graph_sum}
 use Rattle.zx_gates.specs.Circuit.{Circuit, IsCircuit, IsGateOn, is_odd_phase, gate_odd_phases}
 use Rattle.zx_gates.specs.Maps.{amp}
 use Rattle.zx_gates.specs.declared.gate.Gate.{Gate}
@@ -31,9 +31,9 @@ at_n n i o f g wide high p = subst (λ m. Proportional n m f g) high (subst (λ 
 
 -- from a circuit by the sum of its graph
 pub from_circuit : (n i o : ℕ) (start : Graph) (f g : List Bool → List Bool → Number) → i ≡ n → o ≡ n →
-    Proportional n n f (sum start) → Proportional i o (sum start) g → Proportional n n f g
+    Proportional n n f (graph_sum start) → Proportional i o (graph_sum start) g → Proportional n n f g
 from_circuit n i o start f g wide high first second =
-    proportional_trans n n f (sum start) g first (at_n n i o (sum start) g wide high second)
+    proportional_trans n n f (graph_sum start) g first (at_n n i o (graph_sum start) g wide high second)
 
 -- more odd phases allow more gates
 pub bound_rises : (n m t u gates : ℕ) → m ≡ n → t ≤ u → gates ≤ gate_bound m t → gates ≤ gate_bound n u
@@ -44,11 +44,11 @@ bound_rises n m t u gates same more few = at (subst (λ k. gates ≤ gate_bound 
 
 -- a circuit of which a bare graph is left is the identity
 pub bare_seen : (circuit : Circuit) (g : Graph) → WellFormed g → length g.inputs ≡ circuit.qubits →
-    Proportional circuit.qubits circuit.qubits (amp circuit.gates) (sum g) → is_bare g ≡ true → Proportional circuit.qubits circuit.qubits (amp circuit.gates) (amp [])
+    Proportional circuit.qubits circuit.qubits (amp circuit.gates) (graph_sum g) → is_bare g ≡ true → Proportional circuit.qubits circuit.qubits (amp circuit.gates) (amp [])
 bare_seen circuit g valid inputs kept bare =
     let n = circuit.qubits in
-    proportional_trans n n (amp circuit.gates) (sum g) (amp []) kept
-    (at_n n (length g.inputs) (length g.inputs) (sum g) (amp []) inputs inputs (bare_identity g valid bare))
+    proportional_trans n n (amp circuit.gates) (graph_sum g) (amp []) kept
+    (at_n n (length g.inputs) (length g.inputs) (graph_sum g) (amp []) inputs inputs (bare_identity g valid bare))
 
 -- where the one circuit followed by the inverse of the other is the identity, they have one map
 pub same_undone : (a b both : Circuit) → a.qubits ≡ b.qubits → IsCircuit b → both ≡ undone_by a b →

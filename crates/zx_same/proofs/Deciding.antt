@@ -10,7 +10,7 @@ use Rattle.zx_model.proofs.Scalars.{scaled_proportional}
 use Rattle.zx_calculus.specs.Counts.{odd_phases}
 use Rattle.zx_calculus.specs.Graph.{Graph, Vertex, WellFormed, end_vertices, ids, is_interior, kind_of, phase_of}
 use Rattle.zx_calculus.specs.Reduced.{IsReduced}
-use Rattle.zx_calculus.specs.Sum.{sum}
+use Rattle.zx_calculus.specs.Sum.{graph_sum}
 use Rattle.zx_calculus.proofs.Ids.{by_equal, by_test, or-left, or-right}
 use Rattle.zx_calculus.proofs.Results.{interior_from}
 use Rattle.zx_calculus.proofs.Splitting.{all_at}
@@ -40,7 +40,7 @@ ends_of g only u there = not_not _ (all_at (λ v. not (is_interior g v)) (ids g.
     not_not false h = h
 
 pub identity_is_bare : (g : Graph) → WellFormed g → has_only_ends g ≡ true → length g.inputs ≡ length g.outputs →
-    Proportional (length g.inputs) (length g.inputs) (sum g) (amp []) → is_bare g ≡ true
+    Proportional (length g.inputs) (length g.inputs) (graph_sum g) (amp []) → is_bare g ≡ true
 identity_is_bare g valid only as_many same = identity_bare g valid as_many (ends_of g only) same
 
 -- the same gates behind two circuits of one map keep them so
@@ -62,14 +62,14 @@ appended n first second behind p = record {
 
 -- circuits of one map are shown to be the same where only ends are left
 pub decided : (a b : Circuit) (g : Graph) → a.qubits ≡ b.qubits → IsCircuit b → WellFormed g → length g.inputs ≡ a.qubits → length g.outputs ≡ a.qubits →
-    Proportional a.qubits a.qubits (amp (undone_by a b).gates) (sum g) →
+    Proportional a.qubits a.qubits (amp (undone_by a b).gates) (graph_sum g) →
     has_only_ends g ≡ true → Proportional a.qubits a.qubits (amp a.gates) (amp b.gates) → is_bare g ≡ true
 decided a b g same is formed inputs outputs map only one_map =
     let n = a.qubits in
     identity_is_bare g formed only (inputs ∙ sym outputs)
-    (at_n (length g.inputs) n n (sum g) (amp []) (sym inputs) (sym inputs)
-    (proportional_trans n n (sum g) (amp (a.gates ++ inverse_of b.gates)) (amp [])
-    (proportional_sym n n (amp (a.gates ++ inverse_of b.gates)) (sum g) map)
+    (at_n (length g.inputs) n n (graph_sum g) (amp []) (sym inputs) (sym inputs)
+    (proportional_trans n n (graph_sum g) (amp (a.gates ++ inverse_of b.gates)) (amp [])
+    (proportional_sym n n (amp (a.gates ++ inverse_of b.gates)) (graph_sum g) map)
     (proportional_trans n n (amp (a.gates ++ inverse_of b.gates)) (amp (b.gates ++ inverse_of b.gates)) (amp [])
     (appended n a.gates b.gates (inverse_of b.gates) one_map)
     (undone_map n b.gates (subst (λ m. All (IsGateOn m) b.gates) (sym same) is.on_qubits)))))

@@ -17,7 +17,7 @@ use Rattle.zx_model.proofs.SumLemmas.{sum_over_same, sum_over_mul}
 use Rattle.zx_calculus.specs.Graph.{XY, XZ, YZ, Plane, Kind, Vertex, End, Graph, ids, kind_of, joined, neighbours, is_XY, phase_of, end_vertices, Distinct, WellFormed}
 use Rattle.zx_calculus.specs.Parity.{masked}
 use Rattle.zx_calculus.specs.Internal.Pairs.{quad}
-use Rattle.zx_calculus.specs.Sum.{factor, factor_in, vertex_product, sum}
+use Rattle.zx_calculus.specs.Sum.{factor, factor_in, vertex_product, graph_sum}
 use Rattle.zx_calculus.proofs.Booleans.{or-true, parities}
 use Rattle.zx_calculus.proofs.Edges.{joined_comm}
 use Rattle.zx_calculus.proofs.Forms.{sum_is_form}
@@ -241,7 +241,7 @@ filter-one test v (x ∷ xs) d there picks others =
 -- ---- the graph
 module _ (g : Graph) (w : WellFormed g) (as_many : length g.inputs ≡ length g.outputs)
     (has_end : (u : ℕ) → member u (ids g.vertices) ≡ true → (member u (end_vertices g.inputs) || member u (end_vertices g.outputs)) ≡ true)
-    (same : Proportional (length g.inputs) (length g.inputs) (sum g) (amp [])) where
+    (same : Proportional (length g.inputs) (length g.inputs) (graph_sum g) (amp [])) where
   abbrev vs : List ℕ
   vs = ids g.vertices
 

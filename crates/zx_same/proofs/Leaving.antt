@@ -8,7 +8,7 @@ use Rattle.zx_model.proofs.ProportionalLemmas.{proportional_sym, proportional_tr
 use Rattle.zx_model.proofs.Scalars.{scaled_proportional}
 use Rattle.zx_calculus.specs.Graph.{Graph, WellFormed, ids, is_interior, phase_of}
 use Rattle.zx_calculus.specs.Counts.{odd_phases}
-use Rattle.zx_calculus.specs.Sum.{sum}
+use Rattle.zx_calculus.specs.Sum.{graph_sum}
 use Rattle.zx_calculus.proofs.Ids.{by_test}
 use Rattle.zx_calculus.proofs.Results.{interior_from, interior_true}
 use Rattle.zx_calculus.proofs.Splitting.{all_at}
@@ -68,8 +68,8 @@ module _ (c left : Circuit) (on : All (IsOnQubits c.qubits) c.gates) (l : Leaves
   pub left_qubits : left.qubits ≡ c.qubits
   left_qubits = whole.kept.qubits
 
-  graph_map : Proportional c.qubits c.qubits (amp c.gates) (sum l.graph)
-  graph_map = scaled_proportional c.qubits c.qubits (amp c.gates) (sum l.graph) l.times l.grown.scaled
+  graph_map : Proportional c.qubits c.qubits (amp c.gates) (graph_sum l.graph)
+  graph_map = scaled_proportional c.qubits c.qubits (amp c.gates) (graph_sum l.graph) l.times l.grown.scaled
 
   abbrev end : Graph
   end = l.grown.reaches.graph
@@ -89,10 +89,10 @@ module _ (c left : Circuit) (on : All (IsOnQubits c.qubits) c.gates) (l : Leaves
       let n = c.qubits in
       let g = l.graph in
       let identity = bare_seen c end end_formed (run_inputs_kept (translated c) l.grown.reaches.steps end l.grown.reaches.run ∙ start.inputs)
-      (proportional_trans n n (amp c.gates) (amp left.gates) (sum end) left_map (proportional_sym n n (sum end) (amp left.gates) whole.same_map)) bare in
+      (proportional_trans n n (amp c.gates) (amp left.gates) (graph_sum end) left_map (proportional_sym n n (graph_sum end) (amp left.gates) whole.same_map)) bare in
       identity_is_bare g l.grown.well_formed (end_only (bare_only end bare)) (l.grown.inputs ∙ sym l.grown.outputs)
-      (at_n (length g.inputs) n n (sum g) (amp []) (sym l.grown.inputs) (sym l.grown.inputs)
-      (proportional_trans n n (sum g) (amp c.gates) (amp []) (proportional_sym n n (amp c.gates) (sum g) graph_map) identity))
+      (at_n (length g.inputs) n n (graph_sum g) (amp []) (sym l.grown.inputs) (sym l.grown.inputs)
+      (proportional_trans n n (graph_sum g) (amp c.gates) (amp []) (proportional_sym n n (amp c.gates) (graph_sum g) graph_map) identity))
 
 -- of the one circuit followed by the inverse of the other
 pub is_left : (a b both left : Circuit) → a.qubits ≡ b.qubits → IsCircuit b → both ≡ undone_by a b → All (IsOnQubits both.qubits) both.gates → Leaves both left →

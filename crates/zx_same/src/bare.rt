@@ -2,7 +2,7 @@
 
 ghost use Rattle.std.specs.Prelude.{◌≡◌, true, length};
 ghost use Rattle.std.specs.List.{list_all, zip};
-ghost use Rattle.zx_calculus.specs.Graph.{ids, Live, end_vertices};
+ghost use Rattle.zx_calculus.specs.Graph.{ids, IsVertex, end_vertices};
 ghost use Rattle.zx_model.specs.Bits.{member};
 ghost use Rattle.zx_same.specs.Bare.{is_bare, is_bare_vertex, is_bare_wire, is_only_neighbour, is_wire_along_edge, is_wire_at_vertex};
 
@@ -29,7 +29,7 @@ fn are_bare_vertices(g: &OpenGraph) -> bool
 
 // Whether a vertex has an end and phase 0.
 fn is_bare_vertex(g: &OpenGraph, v: VertexId) -> bool
-    requires { Live g.now.graph v }
+    requires { IsVertex g.now.graph v }
     ensures { result ≡ is_bare_vertex g.now.graph v }
 {
     !g.is_interior(v) && g.weight(v).1.get() == 0
@@ -53,8 +53,8 @@ fn are_bare_wires(g: &OpenGraph) -> bool
 
 // Whether two ends are those of one wire.
 fn is_wire(g: &OpenGraph, input: End, output: End) -> bool
-    requires input { Live g.now.graph input.vertex }
-    requires output { Live g.now.graph output.vertex }
+    requires input { IsVertex g.now.graph input.vertex }
+    requires output { IsVertex g.now.graph output.vertex }
     ensures { result ≡ is_bare_wire g.now.graph (input, output) }
 {
     is_wire_at_vertex(g, input, output) || is_wire_along_edge(g, input, output)
@@ -62,7 +62,7 @@ fn is_wire(g: &OpenGraph, input: End, output: End) -> bool
 
 // Whether two ends stand at one vertex without neighbours, and carry the same.
 fn is_wire_at_vertex(g: &OpenGraph, input: End, output: End) -> bool
-    requires { Live g.now.graph input.vertex }
+    requires { IsVertex g.now.graph input.vertex }
     ensures { result ≡ is_wire_at_vertex g.now.graph input output }
 {
     input.vertex == output.vertex
@@ -73,8 +73,8 @@ fn is_wire_at_vertex(g: &OpenGraph, input: End, output: End) -> bool
 // Whether two ends stand at two vertices that have no other ends, each the only neighbour of the other,
 // and one of the ends carries a Hadamard.
 fn is_wire_along_edge(g: &OpenGraph, input: End, output: End) -> bool
-    requires input { Live g.now.graph input.vertex }
-    requires output { Live g.now.graph output.vertex }
+    requires input { IsVertex g.now.graph input.vertex }
+    requires output { IsVertex g.now.graph output.vertex }
     ensures { result ≡ is_wire_along_edge g.now.graph input output }
 {
     is_only_neighbour(g, input.vertex, output.vertex)
@@ -86,7 +86,7 @@ fn is_wire_along_edge(g: &OpenGraph, input: End, output: End) -> bool
 
 // Whether a vertex is adjacent to another one alone.
 fn is_only_neighbour(g: &OpenGraph, u: VertexId, v: VertexId) -> bool
-    requires { Live g.now.graph u }
+    requires { IsVertex g.now.graph u }
     ensures { result ≡ is_only_neighbour g.now.graph u v }
 {
     g.has_edge(u, v) && g.degree(u) == 1

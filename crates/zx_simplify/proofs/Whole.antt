@@ -9,10 +9,10 @@ use Rattle.zx_model.proofs.ProportionalLemmas.{proportional_sym, proportional_tr
 use Rattle.zx_model.proofs.Scalars.{scaled_proportional}
 use Rattle.zx_calculus.specs.Counts.{odd_phases}
 use Rattle.zx_calculus.specs.Graph.{Graph}
-use Rattle.zx_calculus.specs.Sum.{sum}
+use Rattle.zx_calculus.specs.Sum.{graph_sum}
 use Rattle.zx_calculus.proofs.Steps.{run_odd, run_proportional}
 use Rattle.gflow_laws.specs.Flow.{Correction}
-use Rattle.zx_gates.specs.Circuit.{Circuit, IsOnQubits, gate_odd_phases, gate_bound as list_bound}
+use Rattle.zx_gates.specs.Circuit.{Circuit, IsOnQubits, gate_odd_phases, gate_limit}
 use Rattle.zx_gates.specs.Maps.{amp}
 use Rattle.zx_gates.specs.Passes.{Implements, Preserves}
 use Rattle.zx_gates.proofs.Passing.{implements_more, implements_scaled}
@@ -39,8 +39,8 @@ simplified_whole read h table s made t product on g e is =
     let gates = made.gates in
     let start : Translates read (record { graph = translated read; table = translated_table read }) = translates read on in
     let end = g.reaches.graph in
-    let most = 2 * most_vertices_in_memory + list_bound in
-    let extracted = subst (λ m. Implements m (sum h) (odd_phases h) most made t) g.outputs e.kept in
+    let most = 2 * most_vertices_in_memory + gate_limit in
+    let extracted = subst (λ m. Implements m (graph_sum h) (odd_phases h) most made t) g.outputs e.kept in
     let within : Implements n (amp read.gates) (odd_phases h) most_circuit_root2 made product =
     implements_scaled most_grown_root2 s g.scaled g.small extracted is (omega arith) in
     let whole : Preserves most_circuit_root2 read made product = implements_more within (le_trans g.odd start.odd) (le_refl most_circuit_root2) in
@@ -50,12 +50,12 @@ simplified_whole read h table s made t product on g e is =
       run = g.reaches.run;
       reduced = reached_reduced (translated read) h start.well_formed g.well_formed g.reaches g.reduced;
       kept = whole;
-      same_map = proportional_trans n n (sum end) (sum (translated read)) (amp gates)
-          (proportional_sym n n (sum (translated read)) (sum end)
-          (subst (λ m. Proportional n m (sum (translated read)) (sum end)) start.outputs
-          (subst (λ m. Proportional m (length (translated read).outputs) (sum (translated read)) (sum end)) start.inputs
+      same_map = proportional_trans n n (graph_sum end) (graph_sum (translated read)) (amp gates)
+          (proportional_sym n n (graph_sum (translated read)) (graph_sum end)
+          (subst (λ m. Proportional n m (graph_sum (translated read)) (graph_sum end)) start.outputs
+          (subst (λ m. Proportional m (length (translated read).outputs) (graph_sum (translated read)) (graph_sum end)) start.inputs
           (run_proportional (translated read) g.reaches.steps end start.well_formed g.reaches.run))))
-          (proportional_trans n n (sum (translated read)) (amp read.gates) (amp gates)
+          (proportional_trans n n (graph_sum (translated read)) (amp read.gates) (amp gates)
           (translated_map read (record { graph = translated read; table = translated_table read }) start)
           (scaled_proportional n n (amp read.gates) (amp gates) product whole.scaled));
       odd = subst (λ k. gate_odd_phases gates ≤ k) (sym (reached_odd (translated read) h start.well_formed g.well_formed g.reaches)) e.kept.odd;
@@ -72,9 +72,9 @@ pub graph_whole : (g h : Graph) (table : List Correction) (steps : List named.St
     SimplifiesTo g (map step_named steps) h made product
 graph_whole g h table steps s made t product ends r e is =
     let n = length g.outputs in
-    let scaled = subst (λ m. IsScaled m n (sum g) s (sum h)) ends r.scalar in
-    let rest = subst (λ m. Implements m (sum h) (odd_phases h) (2 * most_vertices_in_memory + list_bound) made t) r.outputs e.kept in
-    let whole : Implements n (sum g) (odd_phases h) most_simplified_root2 made product =
+    let scaled = subst (λ m. IsScaled m n (graph_sum g) s (graph_sum h)) ends r.scalar in
+    let rest = subst (λ m. Implements m (graph_sum h) (odd_phases h) (2 * most_vertices_in_memory + gate_limit) made t) r.outputs e.kept in
+    let whole : Implements n (graph_sum g) (odd_phases h) most_simplified_root2 made product =
     implements_scaled most_reduced_root2 s scaled r.small rest is (omega arith) in
     record {
       run = r.run;

@@ -8,7 +8,7 @@ use Rattle.zx_calculus.specs.Graph.{Graph, WellFormed}
 use Rattle.zx_calculus.specs.Reduced.{IsReduced}
 use Rattle.zx_calculus.specs.Steps.{Step, IsRun}
 use Rattle.zx_calculus.specs.StepScalars.{KeepsMap}
-use Rattle.zx_calculus.specs.Sum.{sum}
+use Rattle.zx_calculus.specs.Sum.{graph_sum}
 use Rattle.zx_gates.specs.Circuit.{Circuit, gate_odd_phases}
 use Rattle.zx_gates.specs.Maps.{amp}
 use Rattle.zx_gates.specs.Passes.{Implements, Preserves}
@@ -26,7 +26,7 @@ pub record IsSimplified (read made : Circuit) (s : Scalar) : Type 0 where
   pub run : IsRun (translated read) steps end
   pub reduced : IsReduced end
   pub kept : Preserves most_circuit_root2 read made s
-  pub same_map : Proportional read.qubits read.qubits (sum end) (amp made.gates)
+  pub same_map : Proportional read.qubits read.qubits (graph_sum end) (amp made.gates)
   pub odd : gate_odd_phases made.gates ≤ odd_phases end
   pub fewer : odd_phases end ≤ odd_phases (translated read)
   pub read_odd : odd_phases (translated read) ≤ gate_odd_phases read.gates
@@ -43,7 +43,7 @@ pub record SimplifiesTo (g : Graph) (steps : List Step) (end : Graph) (made : Ci
   pub reduced_map : KeepsMap g end
   pub inputs : length end.inputs ≡ length g.inputs
   pub outputs : length end.outputs ≡ length g.outputs
-  pub kept : Implements (length g.outputs) (sum g) (odd_phases g) most_simplified_root2 made s
+  pub kept : Implements (length g.outputs) (graph_sum g) (odd_phases g) most_simplified_root2 made s
   pub odd : gate_odd_phases made.gates ≤ odd_phases end
   pub fewer : odd_phases end ≤ odd_phases g
   pub few_gates : length made.gates ≤ gate_bound (length g.outputs) (odd_phases g)

@@ -3,7 +3,7 @@ use Rattle.std.proofs.Common.{◌≡◌, ℕ, ◌+◌, ◌*◌, ◌<◌, ◌≤�
 use Rattle.std.specs.List.{list_all, range_with_len}
 use Rattle.zx_model.specs.Bits.{member, xor}
 use Rattle.zx_model.proofs.BitLemmas.{and_comm, and-false}
-use Rattle.zx_calculus.specs.Graph.{Plane, Vertex, Edge, End, Graph, WellFormed, Live, ids, insert_vertex, in_order, edge_before, joins, joined}
+use Rattle.zx_calculus.specs.Graph.{Plane, Vertex, Edge, End, Graph, WellFormed, IsVertex, ids, insert_vertex, in_order, edge_before, joins, joined}
 use Rattle.zx_calculus.specs.Worked.{vertex}
 use Rattle.zx_calculus.specs.Splits.{least_free, least_free_from}
 use Rattle.zx_calculus.specs.Edits.{IsToggle, is_pair}
@@ -40,7 +40,7 @@ in_range a (suc n) v low high =
     (λ t e. rw t refl)
     (λ f apart. rw f (in_range (a + 1) n v (omega arith) (omega arith)))
 
-pub live_below : (g : Graph) (k v : ℕ) → IsNumbered g k → v < k → Live g v
+pub live_below : (g : Graph) (k v : ℕ) → IsNumbered g k → v < k → IsVertex g v
 live_below g k v numbered lt = ap (member v) numbered.ids ∙ in_range 0 (length g.vertices) v (omega arith) (omega (arith, numbered.count))
 
 least-range : (a n : ℕ) → least_free_from a (range_with_len a n) ≡ a + n
@@ -198,7 +198,7 @@ edge_place a b {p} {s} {k} {g} view numbered fits =
     let second = and-right (ltb a b) _ others in
     (ltb-true a b (and-left _ _ others), (omega (arith, ltb-true b (length g.vertices) (and-left _ _ second), numbered.count), and-right _ _ second))
 
-pub end_live : (test : Bool) (ends : List End) (v : ℕ) → {g h : Graph} {k : ℕ} → h ≡ g → IsNumbered g k → (test && end_fits h ends v) ≡ true → Live g v
+pub end_live : (test : Bool) (ends : List End) (v : ℕ) → {g h : Graph} {k : ℕ} → h ≡ g → IsNumbered g k → (test && end_fits h ends v) ≡ true → IsVertex g v
 end_live test ends v {g} {h} {k} same numbered fits =
     let others = and-right test _ fits in
     let inside = and-right (ltb (length ends) 1024) _ others in

@@ -6,7 +6,7 @@ use Rattle.std.proofs.lemmas.Grind.{flat_map-append}
 use Rattle.std.proofs.lemmas.List.Folds.{flat_map-map}
 use Rattle.std.proofs.lemmas.List.Elements.{filter-append}
 use Rattle.zx_model.specs.Bits.{member}
-use Rattle.zx_calculus.specs.Graph.{Vertex, Edge, End, Kind, Graph, WellFormed, Live, ids, kind_of, joined, neighbours, end_vertices, in_order}
+use Rattle.zx_calculus.specs.Graph.{Vertex, Edge, End, Kind, Graph, WellFormed, IsVertex, ids, kind_of, joined, neighbours, end_vertices, in_order}
 use Rattle.zx_calculus.specs.Adjacency.{edges_from, edges_of}
 use Rattle.zx_calculus.proofs.Ids.{and-left, and-right, by_test, by_equal, eqb-self, member-here, member-there, member-append}
 use Rattle.zx_calculus.proofs.Edges.{joined_comm}
@@ -219,12 +219,12 @@ output_text used (e ∷ es) =
     ap₂ (λ s t. s ++ t) (line_of_three (codes "output") (decimal (number_in used e.vertex)) (mark e.hadamard)) (output_text used es)
 
 -- ---- flows
-pub placed : (g : Graph) (t : List Correction) (v : ℕ) → IsTableOf (seen g) t → Live g v → member v (end_vertices g.outputs) ≡ false → member v (order_of t) ≡ true
+pub placed : (g : Graph) (t : List Correction) (v : ℕ) → IsTableOf (seen g) t → IsVertex g v → member v (end_vertices g.outputs) ≡ false → member v (order_of t) ≡ true
 placed g t v table live none =
     let either = all_at (λ u. member u (end_vertices g.outputs) || member u (order_of t)) (ids g.vertices) v table.all_there live in
     rw none at either
 
-in_graph : (g : Graph) (t : List Correction) (v : ℕ) → IsTableOf (seen g) t → member v (order_of t) ≡ true → Live g v
+in_graph : (g : Graph) (t : List Correction) (v : ℕ) → IsTableOf (seen g) t → member v (order_of t) ≡ true → IsVertex g v
 in_graph g t v table there =
     and-left _ _ (all_at (λ u. member u (ids g.vertices) && not (member u (end_vertices g.outputs))) (order_of t) v table.no_others there)
 

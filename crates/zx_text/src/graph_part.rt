@@ -2,7 +2,7 @@
 
 ghost use Rattle.std.specs.Prelude.{◌≡◌, ◌+◌, ◌&&◌, ◌<◌, ◌^◌, true, ltb, length, nat_le, IfOk};
 ghost use Rattle.std.specs.List.{list_all};
-ghost use Rattle.zx_calculus.specs.Graph.{edge_before, Live};
+ghost use Rattle.zx_calculus.specs.Graph.{edge_before, IsVertex};
 ghost use Rattle.open_graph.specs.Planes.{plane_named};
 ghost use Rattle.zx_text.specs.Versions.{version_named};
 ghost use Rattle.zx_text.specs.Internal.Stepping.{begun, vertex_fits, edge_fits, end_fits};
@@ -142,7 +142,7 @@ impl GraphPart {
     // Whether a number is that of a vertex.
     pub(crate) fn is_vertex(&self, v: usize) -> bool
         ensures value { result ≡ ltb v (length self.now.graph.vertices) }
-        ensures live { result ≡ true → Live self.now.graph v }
+        ensures live { result ≡ true → IsVertex self.now.graph v }
     {
         v < self.vertices
     }

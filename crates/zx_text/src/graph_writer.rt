@@ -3,7 +3,7 @@
 ghost use Rattle.std.specs.Prelude.{◌≡◌, ◌≤◌, ◌++◌, true, codes, decimal, length, IfOk, IfSome, OnOk, ltb};
 ghost use Rattle.std.specs.List.{flat_map, list_all};
 ghost use Rattle.std.specs.Option.{ForSome, option_map};
-ghost use Rattle.zx_calculus.specs.Graph.{in_order, Live, WellFormed};
+ghost use Rattle.zx_calculus.specs.Graph.{in_order, IsVertex, WellFormed};
 ghost use Rattle.zx_calculus.specs.Graph as zx;
 ghost use Rattle.open_graph.specs.Planes.{plane_named};
 ghost use Rattle.gflow_laws.specs.Flow.{IsTableOf};
@@ -272,7 +272,7 @@ fn push_set(
 ) -> Result<(), AllocError>
     requires rising { in_order ltb used.now ≡ true }
     requires table { IsTableOf (seen g.now.graph) flow.now.flow }
-    requires live { Live g.now.graph v }
+    requires live { IsVertex g.now.graph v }
     ensures text { OnOk result
         (text.new.items ≡ text.old.items ++ set_text g.now.graph used.now flow.now.flow v) }
     ensures rising { OnOk result (rises g.now.graph flow.now.flow v ≡ true) }

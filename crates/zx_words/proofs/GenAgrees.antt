@@ -11,7 +11,7 @@ use Rattle.clap.specs.Simple.{Shape, filled}
 use Rattle.clap.specs.Faults.{step_fault}
 use Rattle.clap.proofs.OnLiterals.{clap_on_literals}
 use Rattle.zx_words.specs.declared.words.Command.{Command}
-use Rattle.zx_words.specs.Command.{generation_of, number_in, without_separator}
+use Rattle.zx_words.specs.Command.{generation_of, numeral_in, without_separator}
 use Rattle.zx_words.specs.CommandLine.{command_by, gen_app, word_rule, generation_from}
 use Rattle.zx_words.proofs.Levels.{between, first_fault, held, hyphen, level, none_at, one_word, other_word, plain_next}
 use Rattle.zx_words.proofs.Levels.{trailing_next, unless_fault}
@@ -96,7 +96,7 @@ placed_word rest false more (two a b) word = more (three a b word)
 placed_word rest false more (three a b c) word = refl
 
 -- a word that begins with a hyphen is no number
-no_minus : (most : ℕ) (rest : Text) → most < 2 ^ 64 → number_in most (45 ∷ rest) ≡ None
+no_minus : (most : ℕ) (rest : Text) → most < 2 ^ 64 → numeral_in most (45 ∷ rest) ≡ None
 no_minus most rest small = no_number most (45 ∷ rest)
     (λ n le same.
     let numeral : IsNumeral 10 (45 ∷ rest) = subst (IsNumeral 10) (sym same) (decimal_is_IsNumeral n (omega (arith, le, small))).0 in
@@ -118,14 +118,14 @@ no_generation : (g : Given) (minus : Text) (rest : List Text) → generation_of 
 no_generation none minus [] = refl
 no_generation none minus (q ∷ []) = refl
 no_generation none minus (q ∷ r ∷ []) =
-    first_none (number_in (2 ^ 64 - 1) (45 ∷ minus)) (number_in 1024 q) (number_in 1000000 r) (no_minus (2 ^ 64 - 1) minus (omega arith))
+    first_none (numeral_in (2 ^ 64 - 1) (45 ∷ minus)) (numeral_in 1024 q) (numeral_in 1000000 r) (no_minus (2 ^ 64 - 1) minus (omega arith))
 no_generation none minus (q ∷ r ∷ s ∷ rest) = refl
 no_generation (one a) minus [] = refl
 no_generation (one a) minus (r ∷ []) =
-    second_none (number_in (2 ^ 64 - 1) a) (number_in 1024 (45 ∷ minus)) (number_in 1000000 r) (no_minus 1024 minus (omega arith))
+    second_none (numeral_in (2 ^ 64 - 1) a) (numeral_in 1024 (45 ∷ minus)) (numeral_in 1000000 r) (no_minus 1024 minus (omega arith))
 no_generation (one a) minus (r ∷ s ∷ rest) = refl
 no_generation (two a b) minus [] =
-    third_none (number_in (2 ^ 64 - 1) a) (number_in 1024 b) (number_in 1000000 (45 ∷ minus)) (no_minus 1000000 minus (omega arith))
+    third_none (numeral_in (2 ^ 64 - 1) a) (numeral_in 1024 b) (numeral_in 1000000 (45 ∷ minus)) (no_minus 1000000 minus (omega arith))
 no_generation (two a b) minus (s ∷ rest) = refl
 no_generation (three a b c) minus rest = refl
 

@@ -13,7 +13,7 @@ use Rattle.clap.specs.Simple.{app_of_fields}
 use Rattle.clap.specs.declared.builder.command.Command.{Command}
 use Rattle.clap.specs.declared.builder.command.Command.TheOpen.{Command-F}
 use Rattle.clap.proofs.OnLiterals.{clap_on_literals}
-use Rattle.zx_words.specs.Command.{number_in}
+use Rattle.zx_words.specs.Command.{numeral_in}
 use Rattle.zx_words.specs.CommandLine.{zxopt_app, bare, number_at, has_flag}
 
 -- ---- numbers
@@ -26,8 +26,8 @@ unless true x never = absurd (never refl)
 unless false x never = refl
 
 pub number_passes : (most n : ℕ) (text : List ℕ) → n ≤ most → n < 2 ^ 64 → decimal n ≡ text
-    → Some n ≡ number_in most text
-unfolding number_in
+    → Some n ≡ numeral_in most text
+unfolding numeral_in
 number_passes most n text le small e =
     let value : digits_value 10 text ≡ n = ap (digits_value 10) (sym e) ∙ (decimal_is_IsNumeral n small).1 in
     let same : bytes_eq (decimal n) text ≡ true = (bytes_eq-Decides (decimal n) text).1 e in
@@ -37,8 +37,8 @@ taken_by : (b : Bool) (m n : ℕ) → (if b then Some m else None) ≡ Some n �
 taken_by true m n e = (refl, cc)
 taken_by false m n e = absurd (cc)
 
-pub number_is : (most n : ℕ) (text : List ℕ) → number_in most text ≡ Some n → (text ≡ decimal n) × (n ≤ most)
-unfolding number_in
+pub number_is : (most n : ℕ) (text : List ℕ) → numeral_in most text ≡ Some n → (text ≡ decimal n) × (n ≤ most)
+unfolding numeral_in
 number_is most n text e =
     let m : ℕ = digits_value 10 text in
     let t = taken_by (leb m most && bytes_eq (decimal m) text) m n e in
@@ -46,8 +46,8 @@ number_is most n text e =
     let le : m ≤ most = leb-true m most p.0 in
     (sym ((bytes_eq-Decides (decimal m) text).0 p.1) ∙ ap decimal t.1, omega (arith, le, t.1))
 
-pub no_number : (most : ℕ) (text : List ℕ) → ((n : ℕ) → n ≤ most → text ≡ decimal n → ⊥) → number_in most text ≡ None
-unfolding number_in
+pub no_number : (most : ℕ) (text : List ℕ) → ((n : ℕ) → n ≤ most → text ≡ decimal n → ⊥) → numeral_in most text ≡ None
+unfolding numeral_in
 no_number most text none =
     let n : ℕ = digits_value 10 text in
     unless (leb n most && bytes_eq (decimal n) text) (Some n)
@@ -56,13 +56,13 @@ no_number most text none =
     none n (leb-true n most p.0) (sym ((bytes_eq-Decides (decimal n) text).0 p.1)))
 
 pub unparsed : {E : Type 0} (most : ℕ) (text : List ℕ) (r : Result ℕ E) → most < 2 ^ 64 → ParsesUnsigned 64 10 text r
-    → ((n : ℕ) → r ≡ Ok n → ⊥) → None ≡ number_in most text
+    → ((n : ℕ) → r ≡ Ok n → ⊥) → None ≡ numeral_in most text
 unparsed most text r small parsed failed =
     sym (no_number most text
     (λ n le same. failed n (parse-decimal 64 n text r (omega arith) (omega arith) same parsed)))
 
 pub otherwise : {E : Type 0} (most n : ℕ) (text : List ℕ) (r : Result ℕ E) → most < 2 ^ 64 → ParsesUnsigned 64 10 text r
-    → r ≡ Ok n → (n ≤ most → decimal n ≡ text → ⊥) → None ≡ number_in most text
+    → r ≡ Ok n → (n ≤ most → decimal n ≡ text → ⊥) → None ≡ numeral_in most text
 otherwise most n text r small parsed is other =
     sym (no_number most text
     (λ m le same.
@@ -81,12 +81,12 @@ flag_missing name rows first =
     ap (λ (o : Option Text). option_map_or (λ t. bytes_eq t (codes "true")) o false) first
 
 pub number_given : (name : Text) (most : ℕ) (rows : List Row) (text : Text) → Some text ≡ first_of name rows
-    → number_in most text ≡ number_at name most rows
-number_given name most rows text first = ap (λ (o : Option Text). option_and_then (number_in most) o) first
+    → numeral_in most text ≡ number_at name most rows
+number_given name most rows text first = ap (λ (o : Option Text). option_and_then (numeral_in most) o) first
 
 pub number_missing : (name : Text) (most : ℕ) (rows : List Row) → None ≡ first_of name rows
     → None ≡ number_at name most rows
-number_missing name most rows first = ap (λ (o : Option Text). option_and_then (number_in most) o) first
+number_missing name most rows first = ap (λ (o : Option Text). option_and_then (numeral_in most) o) first
 
 -- ---- the command line
 pub bare_is : (f0 f1 f2 f3 f4 : Command-F Command) (a : App) → app_of_fields f0 ≡ a

@@ -49,8 +49,8 @@ without_separator [] = []
 without_separator (word ∷ rest) = if is_separator word then rest else word ∷ without_separator rest
 
 -- the number whose decimal digits the text is, up to the greatest one
-unfoldable pub number_in : ℕ → Text → Option ℕ
-number_in most text =
+unfoldable pub numeral_in : ℕ → Text → Option ℕ
+numeral_in most text =
     let number = digits_value 10 text in
     if nat_le number most && bytes_eq (decimal number) text then Some number else None
 
@@ -61,9 +61,9 @@ o >>= f = option_and_then f o
 -- a seed below 2^64, from 1 to 1,024 qubits, and at most 1,000,000 gates
 abbrev pub generation_of : List Text → Option Command
 generation_of (seed_word ∷ qubits_word ∷ gates_word ∷ []) = do
-  seed ← number_in (2 ^ 64 - 1) seed_word
-  qubits ← number_in 1024 qubits_word
-  gates ← number_in 1000000 gates_word
+  seed ← numeral_in (2 ^ 64 - 1) seed_word
+  qubits ← numeral_in 1024 qubits_word
+  gates ← numeral_in 1000000 gates_word
   if nat_le 1 qubits then Some (Generate seed qubits gates) else None
 generation_of _ = None
 

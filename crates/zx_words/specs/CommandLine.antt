@@ -9,7 +9,7 @@ use Rattle.clap.specs.Words.{subcommand_of, with_rule, with_subcommand}
 use Rattle.clap.specs.Walk.{is_empty}
 use Rattle.clap.specs.Simple.{on_top}
 use Rattle.clap.specs.declared.builder.action.ArgAction.TheVariants.{SetTrue}
-use Rattle.zx_words.specs.Command.{Text, number_in, ◌>>=◌}
+use Rattle.zx_words.specs.Command.{Text, numeral_in, ◌>>=◌}
 use Rattle.zx_words.specs.declared.words.Command.{Command}
 use Rattle.zx_words.specs.declared.words.Command.TheVariants.{Optimise, Reduce, Flow, Graph, Compile}
 use Rattle.zx_words.specs.declared.words.Command.TheVariants.{Teleport, Same, Generate}
@@ -58,7 +58,7 @@ abbrev pub has_flag : Text → List Row → Bool
 has_flag name rows = option_map_or (λ text. bytes_eq text (codes "true")) (first_of name rows) false
 
 abbrev pub number_at : Text → ℕ → List Row → Option ℕ
-number_at name most rows = option_and_then (number_in most) (first_of name rows)
+number_at name most rows = option_and_then (numeral_in most) (first_of name rows)
 
 -- the command of three numbers, where all are there
 abbrev pub generation_from : Option ℕ → Option ℕ → Option ℕ → Option Command

@@ -3,7 +3,7 @@
 ghost use Rattle.std.specs.Prelude.{◌≡◌, ◌<◌, ◌≤◌, ◌^◌, ℕ, List, [], ◌∷◌, codes, decimal};
 ghost use Rattle.std.specs.Prelude.{Some, None, true, false};
 ghost use Rattle.zx_words.specs.declared.words.Command.TheVariants.{Optimise, Reduce, Flow, Graph, Compile, Teleport, Same, Generate};
-ghost use Rattle.zx_words.specs.Command.{Text, command_of, number_in};
+ghost use Rattle.zx_words.specs.Command.{Text, command_of, numeral_in};
 ghost use Rattle.zx_words.specs.CommandLine.{clap_command_of};
 
 /// What some words give.
@@ -60,8 +60,8 @@ pub fn worked_numbers()
 /// A number is read of its decimal digits alone.
 pub fn numbers_are_read_of_their_digits()
     ensures read { (most number : ℕ) → number ≤ most → number < 2 ^ 64
-        → number_in most (decimal number) ≡ Some number }
-    ensures only { (most number : ℕ) (text : Text) → number_in most text ≡ Some number
+        → numeral_in most (decimal number) ≡ Some number }
+    ensures only { (most number : ℕ) (text : Text) → numeral_in most text ≡ Some number
         → (text ≡ decimal number) × (number ≤ most) }
 {}
 

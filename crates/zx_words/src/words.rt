@@ -4,7 +4,7 @@ ghost use Rattle.std.specs.Prelude.{◌≡◌, ◌≤◌, IfOk, IfSome, codes, f
 ghost use Rattle.clap.specs.Words.{app_of, found_of, new_app, rule_of, rows_of, with_rule, with_subcommand};
 ghost use Rattle.clap.specs.Words.{subcommand_rows_of};
 ghost use Rattle.clap.specs.declared.builder.command.Command.TheViews.{out-Command};
-ghost use Rattle.zx_words.specs.Command.{IsWithinLimits, command_in, number_in};
+ghost use Rattle.zx_words.specs.Command.{IsWithinLimits, command_in, numeral_in};
 ghost use Rattle.zx_words.specs.CommandLine.{bare, flag_rule, word_rule, opt_app, gen_app};
 ghost use Rattle.zx_words.specs.CommandLine.{zxopt_app, command_by, generation_by};
 ghost use Rattle.zx_words.specs.CommandLine.{has_flag, number_at};
@@ -241,12 +241,12 @@ fn number_at(given: &ArgMatches, name: &str, most: u64) -> Option<u64>
     ensures value { result ≡ number_at name.now most (rows_of (found_of given.now)) }
     ensures small { IfSome result (λ number. number ≤ most) }
 {
-    number_in(given.get_str(name)?, most)
+    numeral_in(given.get_str(name)?, most)
 }
 
 // The number that a text spells in decimal digits, without a leading zero, up to the greatest one.
-fn number_in(text: &str, most: u64) -> Option<u64>
-    ensures value { result ≡ number_in most text.now }
+fn numeral_in(text: &str, most: u64) -> Option<u64>
+    ensures value { result ≡ numeral_in most text.now }
     ensures small { IfSome result (λ number. number ≤ most) }
 {
     match text.parse::<u64>() {

@@ -3,8 +3,7 @@ use Rattle.std.specs.Prelude.{◌≡◌, ℕ, Bool, true, false, not, ◌&&◌, 
 use Rattle.zx_model.specs.Bits.{member}
 use Rattle.zx_calculus.specs.Graph.{Graph, WellFormed, Distinct}
 use Rattle.gflow_laws.specs.Seen.{seen}
-use Rattle.gflow_laws.specs.Flow.{Correction, order_of, set_of, is_in, is_later}
-use Rattle.gflow_laws.specs.Correcting.{Corrects}
+use Rattle.gflow_laws.specs.Flow.{Correction, order_of, set_of, is_in, is_later, Corrects}
 use Rattle.flow_find.specs.declared.search.Search.{Search}
 use Rattle.flow_find.specs.Frontiers.{IsFrontierOf}
 use Rattle.flow_find.specs.Stuck.{IsStuck}

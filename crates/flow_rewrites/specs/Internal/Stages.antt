@@ -1,6 +1,6 @@
 -- The local complements that a step is: what a flow sees before each of them.
 use Rattle.std.specs.Prelude.{⊤, ◌≡◌, ℕ, true}
-use Rattle.zx_calculus.specs.Graph.{Graph, Plane, joined, Live}
+use Rattle.zx_calculus.specs.Graph.{Graph, Plane, joined, IsVertex}
 use Rattle.gflow_laws.specs.Seen.{Seen, complemented, complemented_plane, turned_plane}
 use Rattle.flow_rewrites.specs.declared.sets.Stage.{Stage}
 use Rattle.flow_rewrites.specs.declared.sets.Stage.TheVariants.{First, Second, Third}
@@ -20,5 +20,5 @@ plane_in (Third w) plane = turned_plane (complemented_plane plane)
 -- the other vertex is adjacent to u
 abbrev pub IsBeside : Graph → ℕ → Stage → Type 0
 IsBeside g u First = ⊤
-IsBeside g u (Second w) = Live g w × (joined g.edges u w ≡ true)
-IsBeside g u (Third w) = Live g w × (joined g.edges u w ≡ true)
+IsBeside g u (Second w) = IsVertex g w × (joined g.edges u w ≡ true)
+IsBeside g u (Third w) = IsVertex g w × (joined g.edges u w ≡ true)

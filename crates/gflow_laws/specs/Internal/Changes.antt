@@ -1,9 +1,8 @@
 -- Sets of a flow changed one after the other, as functions.
 use Rattle.std.specs.Prelude.{◌≡◌, ℕ, Bool, if◌then◌else◌, not, ◌&&◌, ◌==◌, List}
 use Rattle.zx_model.specs.Bits.{xor, member}
-use Rattle.gflow_laws.specs.Seen.{Seen, odd}
-use Rattle.gflow_laws.specs.Flow.{Correction, order_of, set_of, is_in}
-use Rattle.gflow_laws.specs.Correcting.{odd_in}
+use Rattle.gflow_laws.specs.Seen.{Seen, in_odd_neighbourhood}
+use Rattle.gflow_laws.specs.Flow.{Correction, order_of, set_of, is_in, odd_in}
 
 -- what becomes of the set of a vertex
 abbrev pub Change : Type 0
@@ -22,7 +21,7 @@ pub record AreChanged (change : Change) (done : List ℕ) (t t' : List Correctio
 abbrev pub complement_change : Seen → ℕ → List ℕ → ℕ → (ℕ → Bool) → ℕ → Bool
 complement_change s u own v set w =
     if v == u then xor (set w) (odd_in (s.plane u) && (w == u))
-    else if odd s set u then xor (set w) (xor (is_in own w) (not (odd_in (s.plane u)) && (w == u)))
+    else if in_odd_neighbourhood s set u then xor (set w) (xor (is_in own w) (not (odd_in (s.plane u)) && (w == u)))
     else set w
 
 -- u goes, whose set is `own`: where u is in a set, `own` is toggled there

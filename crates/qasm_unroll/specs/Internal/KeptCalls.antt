@@ -6,7 +6,7 @@ use Rattle.zx_gates.specs.declared.elementary.ElementaryGate.TheVariants as elem
 use Rattle.qasm_angle.specs.declared.angle.Angle.{Angle}
 use Rattle.qasm_angle.specs.Trees.{Tree}
 use Rattle.qasm_angle.specs.Values.{value}
-use Rattle.qasm_angle.specs.Sixteenths.{phase_of}
+use Rattle.qasm_angle.specs.Sixteenths.{phase_of_angle}
 use Rattle.qasm_scope.specs.declared.causes.Cause.{Cause}
 use Rattle.qasm_names.specs.declared.gates.GateBody.{GateBody}
 use Rattle.qasm_names.specs.declared.gates.GateCall.{GateCall}
@@ -33,7 +33,8 @@ Numbered = ℕ → ℕ → List Angle → List ℕ → List Event
 
 -- the built-in gates with their angles and qubits
 abbrev pub u_events : List Angle → List ℕ → List Event
-u_events (theta ∷ phi ∷ lambda ∷ []) (q ∷ []) = u_of q (phase_of theta) (phase_of phi) (phase_of lambda)
+u_events (theta ∷ phi ∷ lambda ∷ []) (q ∷ []) =
+    u_of q (phase_of_angle theta) (phase_of_angle phi) (phase_of_angle lambda)
 u_events angles qubits = []
 
 abbrev pub cx_events : List ℕ → List Event

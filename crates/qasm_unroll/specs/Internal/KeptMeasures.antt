@@ -5,7 +5,7 @@ use Rattle.std.specs.Option.{option_or}
 use Rattle.zx_model.specs.Bits.{member}
 use Rattle.zx_gates.specs.declared.elementary.Measure.{Measure}
 use Rattle.qasm_reader.specs.Syntax.{Operand, Sentence, Act, Measured as MeasuredAs}
-use Rattle.qasm_scope.specs.Applications.{Range, place_at, register_of}
+use Rattle.qasm_scope.specs.Applications.{Range, element_at, register_of}
 use Rattle.qasm_scope.specs.declared.causes.Cause.{Cause}
 use Rattle.qasm_scope.specs.declared.causes.Cause.TheVariants as cause
 use Rattle.qasm_scope.specs.Faults.{is_no_register, is_past, wrong_behind, wrong_in}
@@ -14,7 +14,7 @@ use Rattle.qasm_scope.specs.Measurements.{are_unlike, bits_of, count_in, holds_a
 use Rattle.qasm_scope.specs.Scope.{Scope, Lookup}
 use Rattle.qasm_unroll.specs.declared.measured.Measured.{Measured}
 use Rattle.qasm_unroll.specs.declared.unroll.Unrolled.{Unrolled}
-use Rattle.qasm_unroll.specs.Internal.Spans.{cut_place_at, span_in, span_of}
+use Rattle.qasm_unroll.specs.Internal.Spans.{cut_element_at, span_in, span_of}
 
 -- the sets are those of the qubits and the bits of the list
 pub record Remembers (measured : Measured) : Type 0 where
@@ -33,7 +33,7 @@ Inserts before number after = (other : ℕ) → member other after ≡ (member o
 -- numbers are cut off at the largest ones that fit
 abbrev pub cut_measure : Range → Range → ℕ → Measure
 cut_measure from to index =
-    record { qubit = cut_place_at index from; bit = min (place_at index to) (2 ^ 32 - 1) }
+    record { qubit = cut_element_at index from; bit = min (element_at index to) (2 ^ 32 - 1) }
 
 abbrev pub cut_measures : Range → Range → List Measure
 cut_measures from to = map (cut_measure from to) (range_with_len 0 (count_in from))

@@ -3,7 +3,7 @@ use Rattle.std.specs.Prelude.{ℕ, ◌+◌, ◌-◌, ◌^◌, ◌==◌, Bool, fa
 use Rattle.std.specs.Prelude.{map, min, get_or, Option, None, Some, Result, nat_le, nat_lt}
 use Rattle.std.specs.List.{flat_map, list_any, range_with_len}
 use Rattle.qasm_reader.specs.Syntax.{Operand, Apply}
-use Rattle.qasm_scope.specs.Applications.{Range, Single, Register, place_at, register_of, register_sizes}
+use Rattle.qasm_scope.specs.Applications.{Range, Single, Register, element_at, register_of, register_sizes}
 use Rattle.qasm_scope.specs.Angles.{is_unsupported, numbered, places_among}
 use Rattle.qasm_names.specs.Checks.{Symbols, kept_by, lookup_by}
 use Rattle.qasm_names.specs.Kept.{KeptNames, called_for}
@@ -62,11 +62,11 @@ any_overlap count [] = false
 any_overlap count (t ∷ ranges) = list_any (overlaps count t) ranges || any_overlap count ranges
 
 -- the qubit of a range at an index, as a circuit's qubit: cut off at the largest one
-abbrev pub cut_place_at : ℕ → Range → ℕ
-cut_place_at index t = min (place_at index t) (2 ^ 16 - 1)
+abbrev pub cut_element_at : ℕ → Range → ℕ
+cut_element_at index t = min (element_at index t) (2 ^ 16 - 1)
 
 abbrev pub cut_instance : List Range → ℕ → List ℕ
-cut_instance ranges index = map (cut_place_at index) ranges
+cut_instance ranges index = map (cut_element_at index) ranges
 
 -- how many instances there are: one for each index of the registers, which have one size, or one alone
 abbrev pub instance_count : List ℕ → ℕ

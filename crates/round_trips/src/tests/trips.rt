@@ -1,7 +1,7 @@
 //! A circuit on two qubits into its graph, through rewrites, and back into gates.
 
 ghost use Rattle.std.specs.Prelude.{◌≡◌, ◌≢◌, ◌<◌, ℕ, true, false, IfOk, OnOk};
-ghost use Rattle.zx_calculus.specs.Graph.{plane_of, Live};
+ghost use Rattle.zx_calculus.specs.Graph.{plane_of, IsVertex};
 ghost use Rattle.zx_calculus.specs.Graph as zx;
 ghost use Rattle.gflow_laws.specs.Flow.{IsFlow};
 
@@ -146,7 +146,7 @@ pub fn rewrite(graph: &mut OpenGraph, flow: &mut Flow, step: Step) -> Result<(),
 
 // Whether no vertex is in the XZ plane.
 fn has_no_xz(graph: &OpenGraph) -> bool
-    ensures { result ≡ true → (v : ℕ) → Live graph.now.graph v → plane_of graph.now.graph v ≢ zx.XZ }
+    ensures { result ≡ true → (v : ℕ) → IsVertex graph.now.graph v → plane_of graph.now.graph v ≢ zx.XZ }
 {
     for v in graph.vertices() {
         if is_xz(graph, v) {
@@ -157,7 +157,7 @@ fn has_no_xz(graph: &OpenGraph) -> bool
 }
 
 fn is_xz(graph: &OpenGraph, v: VertexId) -> bool
-    requires { Live graph.now.graph v }
+    requires { IsVertex graph.now.graph v }
     ensures { result ≡ false → plane_of graph.now.graph v ≢ zx.XZ }
 {
     match graph.weight(v).0 {

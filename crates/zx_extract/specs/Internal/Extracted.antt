@@ -5,7 +5,7 @@ use Rattle.zx_model.specs.Internal.Powers.{power_of_two}
 use Rattle.zx_model.specs.Number.{mul}
 use Rattle.zx_model.specs.declared.scalar.Scalar.{Scalar}
 use Rattle.zx_calculus.specs.Graph.{Graph}
-use Rattle.zx_calculus.specs.Sum.{sum}
+use Rattle.zx_calculus.specs.Sum.{graph_sum}
 use Rattle.zx_calculus.specs.Counts.{odd_phases, not_XY, XY_without_output}
 use Rattle.zx_gates.specs.Circuit.{Circuit, IsOnQubits, gate_odd_phases}
 use Rattle.zx_gates.specs.Maps.{amp}
@@ -20,7 +20,7 @@ use Rattle.zx_extract.specs.Internal.Leading.{Remainder}
 pub record HasExactMap (doublings : ℕ) (g : Graph) (gates : List Gate) : Type 0 where
   pub few : doublings ≤ not_XY g
   pub equal : (x y : List Bool) → length x ≡ length g.inputs → length y ≡ length g.outputs →
-      sum g x y ≡ mul (power_of_two doublings) (amp gates x y)
+      graph_sum g x y ≡ mul (power_of_two doublings) (amp gates x y)
 
 -- the gates are the circuit of g, whose sum is doubled so often
 pub record IsExtracted (doublings : ℕ) (g : Graph) (gates : List Gate) : Type 0 where
@@ -36,5 +36,5 @@ pub record IsTakenApart (doublings : ℕ) (g : Graph) (s : Remainder) : Type 0 w
 
 -- what is made of g is its circuit, with the scalar between the two
 pub record IsCircuitOf (g : Graph) (made : Circuit) (s : Scalar) : Type 0 where
-  pub kept : Implements (length g.outputs) (sum g) (odd_phases g) (2 * not_XY g) made s
+  pub kept : Implements (length g.outputs) (graph_sum g) (odd_phases g) (2 * not_XY g) made s
   pub few_gates : length made.gates ≤ most_extracted_gates (length g.outputs) (XY_without_output g) (not_XY g)

@@ -1,7 +1,7 @@
 -- A graph under extraction, from whose outputs gates are taken off.
 use Rattle.std.specs.Prelude.{◌≡◌, ◌≢◌, ◌≤◌, ℕ, ◌+◌, ◌*◌, Bool, true, false, List, ◌++◌, length}
 use Rattle.std.specs.List.{All}
-use Rattle.zx_calculus.specs.Graph.{XZ, Graph, joined, plane_of, phase_of, Live, WellFormed}
+use Rattle.zx_calculus.specs.Graph.{XZ, Graph, joined, plane_of, phase_of, IsVertex, WellFormed}
 use Rattle.zx_calculus.specs.Counts.{odd_phases, not_XY, XY_without_output}
 use Rattle.gflow_laws.specs.Flow.{Correction, IsFlow}
 use Rattle.zx_gates.specs.Circuit.{IsOnQubits, gate_odd_phases, most_qubits}
@@ -36,7 +36,7 @@ pub record Leads (s : Remainder) (k spiders gadgets : ℕ) (t : Remainder) : Typ
 pub record IsGiven (s : Remainder) : Type 0 where
   pub well_formed : WellFormed s.graph
   pub flow : IsFlow s.graph s.table
-  pub planes : (v : ℕ) → Live s.graph v → plane_of s.graph v ≢ XZ
+  pub planes : (v : ℕ) → IsVertex s.graph v → plane_of s.graph v ≢ XZ
   pub few : length s.graph.outputs ≤ most_qubits
 
 -- what holds once the outputs are plain

@@ -1,7 +1,6 @@
 -- Lists of ends, the outputs next to a vertex, and the last correction of a table.
 use Rattle.std.specs.Prelude.{◌≡◌, ℕ, ◌-◌, Bool, false, if◌then◌else◌, ltb, List, [], ◌∷◌, slice_get, Some, map, filter}
-use Rattle.zx_calculus.specs.Graph.{End, Graph, joined, end_vertices}
-use Rattle.zx_calculus.specs.Worked.{plain}
+use Rattle.zx_calculus.specs.Graph.{End, Graph, joined, end_vertices, plain}
 use Rattle.gflow_laws.specs.Flow.{Correction, is_in}
 
 -- the end at this place is plain

@@ -5,7 +5,7 @@ use Rattle.zx_gates.specs.declared.tally.Counts.{Counts}
 use Rattle.zx_gates.specs.Circuit.{Circuit}
 use Rattle.zx_gates.specs.Passes.{Preserves}
 use Rattle.zx_peephole.specs.Tidy.{IsTidy}
-use Rattle.zx_optimise.specs.Optimising.{counts_of, IsCleaned, IsNoDearer, Optimises, Teleports}
+use Rattle.zx_optimise.specs.Optimising.{counts_of, IsCleaned, CostsNoMore, Optimises, Teleports}
 
 -- whether these are more, by odd phases, then by gates on two qubits, then by all gates
 abbrev pub is_dearer : Counts → Counts → Bool
@@ -15,8 +15,8 @@ is_dearer a b =
     else nat_lt b.odd a.odd
 
 -- one circuit is no dearer than another
-abbrev pub IsNoDearerThan : Circuit → Circuit → Type 0
-IsNoDearerThan a b = IsNoDearer (counts_of a.gates) (counts_of b.gates)
+abbrev pub CostsNoMoreThan : Circuit → Circuit → Type 0
+CostsNoMoreThan a b = CostsNoMore (counts_of a.gates) (counts_of b.gates)
 
 -- the greatest exponent of the root of two in the scalar of a candidate of which no pieces are replaced yet
 abbrev pub most_whole_root2 : ℕ

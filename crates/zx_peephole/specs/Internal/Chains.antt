@@ -6,7 +6,7 @@ use Rattle.std.specs.List.{filter}
 use Rattle.zx_gates.specs.declared.gate.Gate.{Gate}
 use Rattle.zx_gates.specs.declared.gate.Gate.TheVariants.{H, Phase, Cz, Cx, Not}
 use Rattle.zx_gates.specs.declared.gate_list.Links.{Links}
-use Rattle.zx_gates.specs.Circuit.{most_qubits, gate_bound, IsGateOn}
+use Rattle.zx_gates.specs.Circuit.{most_qubits, gate_limit, IsGateOn}
 use Rattle.zx_peephole.specs.Commuting.{is_on}
 use Rattle.zx_peephole.specs.Internal.Marks.{IsMarked}
 use Rattle.zx_peephole.specs.declared.chains.Chains.{Chains}
@@ -79,7 +79,7 @@ pub record HasPlaces (w : Chains) : Type 0 where
   pub linked : w.qubits ≤ length w.last.items
   pub marked : w.qubits ≤ length w.marks.items
   pub within : w.next ≤ length w.gates.items
-  pub few_gates : length w.gates.items < gate_bound
+  pub few_gates : length w.gates.items < gate_limit
   pub enough : length w.gates.items ≤ length w.links.items
 
 -- the gates that are kept

@@ -9,7 +9,7 @@ use Rattle.zx_gates.specs.Circuit.{gate_odd_phases}
 use Rattle.zx_gates.specs.Counting.{is_two_qubit}
 use Rattle.zx_gates.specs.Maps.{acts}
 use Rattle.zx_peephole.specs.Commuting.{commutes}
-use Rattle.zx_peephole.specs.Tidy.{is_pair, is_turned, is_off, IsTidy}
+use Rattle.zx_peephole.specs.Tidy.{cancels_or_merges, is_turned, is_off, IsTidy}
 use Rattle.zx_peephole.specs.declared.finding.Change.{Change}
 use Rattle.zx_peephole.specs.declared.finding.Change.TheVariants.{Pair, Triple}
 use Rattle.zx_peephole.specs.declared.chains.Chains.{Chains}
@@ -24,7 +24,7 @@ pub record EndsPair (front : List Gate) (gate : Gate) (i : ℕ) : Type 0 where
   pub between : List Gate
   pub cut : front ≡ before ++ first ∷ between
   pub at : length before ≡ i
-  pub merge : IsTrue (is_pair first gate)
+  pub merge : IsTrue (cancels_or_merges first gate)
   pub commute : IsTrue (list_all (commutes first) between)
 
 -- a triple with the gates at places i and j

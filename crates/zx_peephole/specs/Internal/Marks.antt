@@ -6,7 +6,7 @@ use Rattle.std.specs.Int.{bit_at}
 use Rattle.zx_gates.specs.declared.gate.Gate.{Gate}
 use Rattle.zx_gates.specs.declared.gate.Gate.TheVariants.{H, Cz, Cx, Not}
 use Rattle.zx_gates.specs.Circuit.{most_qubits}
-use Rattle.zx_peephole.specs.Tidy.{is_pair}
+use Rattle.zx_peephole.specs.Tidy.{cancels_or_merges}
 
 -- whether a gate is H or NOT on the qubit, or a Cx of this target: no Cz on the qubit passes it
 abbrev pub bars : ℕ → Gate → Bool
@@ -29,7 +29,8 @@ has_mark marks q r = has_bit (slice_index_or marks q []) r
 -- each Cz of the list has its marks, that on a qubit unless a gate behind it bars the qubit
 pub record IsMarked (marks : List (List ℕ)) (gates : List Gate) : Type 0 where
   pub marked : (q r : ℕ) (before between : List Gate) (first : Gate) → r < most_qubits
-      → gates ≡ before ++ first ∷ between → IsTrue (is_pair first (Cz q r)) → IsTrue (list_all (is_open q) between)
+      → gates ≡ before ++ first ∷ between → IsTrue (cancels_or_merges first (Cz q r)) →
+      IsTrue (list_all (is_open q) between)
       → IsTrue (has_mark marks q r)
 
 -- whether a gate is a Cz that lacks one of its marks
@@ -41,7 +42,7 @@ meets_none marks gate = false
 -- for the list with the gate behind it
 pub record IsMarkedBehind (old new : List (List ℕ)) (gate : Gate) : Type 0 where
   pub stays : (q r : ℕ) → bars q gate ≡ false → IsTrue (has_mark old q r) → IsTrue (has_mark new q r)
-  pub comes : (q r : ℕ) → IsTrue (is_pair gate (Cz q r)) → IsTrue (has_mark new q r)
+  pub comes : (q r : ℕ) → IsTrue (cancels_or_merges gate (Cz q r)) → IsTrue (has_mark new q r)
 
 -- for the list without the gate
 pub record IsMarkedWithout (old new : List (List ℕ)) (gate : Gate) : Type 0 where

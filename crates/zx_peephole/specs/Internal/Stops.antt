@@ -4,13 +4,13 @@ use Rattle.std.specs.List.{list_all}
 use Rattle.zx_gates.specs.declared.gate.Gate.{Gate}
 use Rattle.zx_gates.specs.declared.gate.Gate.TheVariants.{H}
 use Rattle.zx_peephole.specs.Commuting.{commutes}
-use Rattle.zx_peephole.specs.Tidy.{is_pair, is_turned}
+use Rattle.zx_peephole.specs.Tidy.{cancels_or_merges, is_turned}
 use Rattle.zx_peephole.specs.declared.finding.Walk.{Walk}
 use Rattle.zx_peephole.specs.Internal.Chains.{is_left, gate_at, IsOn, IsLast, first_qubit, second_qubit}
 
 -- whether an earlier gate stops a gate on its way to the front: they are a pair, or don't commute
 abbrev pub stops : Gate → Gate → Bool
-stops gate earlier = is_pair earlier gate || not (commutes earlier gate)
+stops gate earlier = cancels_or_merges earlier gate || not (commutes earlier gate)
 
 -- whether no gate of the list stops it
 abbrev pub is_free : Gate → List Gate → Bool

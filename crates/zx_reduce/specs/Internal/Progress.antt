@@ -11,7 +11,7 @@ use Rattle.zx_calculus.specs.Steps.{IsStep}
 use Rattle.zx_calculus.specs.StepScalars.{step_scalar}
 use Rattle.gflow_laws.specs.Flow.{Correction, IsFlow}
 use Rattle.move_laws.specs.Orders.{is_split}
-use Rattle.circuit_graph.specs.Translation.{present}
+use Rattle.circuit_graph.specs.Translation.{last_spider}
 use Rattle.phase_groups.specs.Groups.{Phases, IsAdded, IsFollowed}
 use Rattle.graph_rewrites.specs.Steps.{step_named}
 use Rattle.graph_rewrites.specs.declared.step.Step.{Step}
@@ -43,7 +43,7 @@ AreAdded i v k (Some p) (Some q) = IsAdded i v k p q
 -- the vertex at the output n holds the phase k of the gate i as well
 pub record Notes (i n k : ℕ) (p q : Progress) : Type 0 where
   pub same : q ≡ record p { phases = q.phases }
-  pub phases : AreAdded i (present p.ordered.graph n) k p.phases q.phases
+  pub phases : AreAdded i (last_spider p.ordered.graph n) k p.phases q.phases
 
 -- q is p after a step: it splits no end while gates come, and stands in the trace afterwards
 pub record IsDone (p : Progress) (s : Step) (q : Progress) : Type 0 where

@@ -7,7 +7,7 @@ use Rattle.zx_run.specs.declared.status.Fault.TheVariants.{TooLong}
 use Rattle.zx_run.specs.declared.status.Status.{Status}
 use Rattle.zx_run.specs.declared.status.Status.TheVariants.{Refused, NoMemory}
 use Rattle.zx_run.specs.FirstFault.{most_bytes, IsFirstFault}
-use Rattle.zx_run.specs.TwoTexts.{moved}
+use Rattle.zx_run.specs.TwoTexts.{shifted_fault}
 
 -- the text is too long to be read
 abbrev pub IsTooLong : List ℕ → Fault → Type 0
@@ -21,11 +21,11 @@ IsRefusalFor why status = ⊥
 
 -- the first fault of a text that stands so many bytes further on
 abbrev pub IsFaultFrom : ℕ → List ℕ → Fault → Type 0
-IsFaultFrom from text fault = (own : Fault) × IsFirstFault text own × (fault ≡ moved from own)
+IsFaultFrom from text fault = (own : Fault) × IsFirstFault text own × (fault ≡ shifted_fault from own)
 
 -- the same of an answer
 abbrev pub moved_answer : ℕ → Status → Status
-moved_answer by (Refused fault) = Refused (moved by fault)
+moved_answer by (Refused fault) = Refused (shifted_fault by fault)
 moved_answer by status = status
 
 -- the error of a text that stands so many bytes further on

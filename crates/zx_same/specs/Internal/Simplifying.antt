@@ -10,7 +10,7 @@ use Rattle.zx_calculus.specs.Counts.{odd_phases}
 use Rattle.zx_calculus.specs.Graph.{Graph, WellFormed}
 use Rattle.zx_calculus.specs.Reduced.{IsReduced}
 use Rattle.zx_calculus.specs.Steps.{IsRun}
-use Rattle.zx_calculus.specs.Sum.{sum}
+use Rattle.zx_calculus.specs.Sum.{graph_sum}
 use Rattle.zx_gates.specs.Circuit.{Circuit, gate_odd_phases}
 use Rattle.zx_gates.specs.Maps.{amp}
 use Rattle.zx_gates.specs.Passes.{Preserves}
@@ -33,7 +33,7 @@ pub record Simplifies (circuit : Circuit) (made : Simplified) : Type 0 where
   pub inputs : length made.reduced.graph.inputs ≡ circuit.qubits
   pub outputs : length made.reduced.graph.outputs ≡ circuit.qubits
   pub fewer : odd_phases made.reduced.graph ≤ gate_odd_phases circuit.gates
-  pub reduced_map : Proportional circuit.qubits circuit.qubits (amp circuit.gates) (sum made.reduced.graph)
+  pub reduced_map : Proportional circuit.qubits circuit.qubits (amp circuit.gates) (graph_sum made.reduced.graph)
   pub kept : Preserves most_left_root2 circuit made.gates made.scalar
   pub tidy : IsTidy made.gates.gates
   pub few : length made.gates.gates ≤ gate_bound circuit.qubits (gate_odd_phases circuit.gates)

@@ -1,7 +1,7 @@
 -- One circuit is made of the other.
 use Rattle.std.proofs.Common.{◌*◌, arith}
 use Rattle.zx_model.proofs.Scalars.{within_more}
-use Rattle.zx_gates.specs.Circuit.{gate_bound}
+use Rattle.zx_gates.specs.Circuit.{gate_limit}
 use Rattle.fewer_phases.specs.Bounds.{most_root2_of_fewer}
 use Rattle.fewer_phases.specs.Internal.Making.{most_root2_of_one}
 use Rattle.fewer_phases.proofs.putting_in.teleported_with.Goals as goal
@@ -12,7 +12,7 @@ returns c =
     (record {
       qubits = rw c.in-Some.is at c.in_ok-longer.ensures.qubits;
       scaled = rw c.in-Some.is at c.in_ok-longer.ensures.scaled;
-      small = within_more (2 * gate_bound) most_root2_of_fewer c.in-Some.longer.scalar (rw c.in-Some.is at c.in_ok-longer.ensures.small)
+      small = within_more (2 * gate_limit) most_root2_of_fewer c.in-Some.longer.scalar (rw c.in-Some.is at c.in_ok-longer.ensures.small)
           (omega arith);
     })
     c.in_ok-made.ensures

@@ -5,7 +5,7 @@ use Rattle.gflow_laws.specs.Seen.{Seen, seen}
 use Rattle.gflow_laws.specs.Flow.{Correction}
 use Rattle.flow_check.specs.declared.verdict.Condition.{Condition}
 use Rattle.flow_check.specs.declared.verdict.Verdict.TheVariants.{Flow}
-use Rattle.flow_check.specs.Failures.{conditions, holds, all_hold, IsFirstFailure}
+use Rattle.flow_check.specs.Failures.{conditions, condition_holds, all_hold, IsFirstFailure}
 use Rattle.flow_check.specs.Internal.Conditions.{IsFirstOrNone}
 use Rattle.flow_check.proofs.FirstFailures.{flow_from, is_flow, flow_fails_nowhere, fails_no_flow, fails_there}
 use Rattle.flow_check.proofs.Walking.{listed, stands, marked, one_more_taken, first_there}
@@ -32,7 +32,7 @@ loop-v-preserved c =
           c.loop-v-test.true c.v-item.is c.loop-v.passed.ids c.toggle.new.self.ids c.loop-v.invariant.marks c.in_ok-toggle.ensures.ok;
       held = one_more_taken (all_hold s table) c.order-v-items.result.now c.loop-v.v-index c.v-item.result c.loop-v-test.true c.v-item.is
           c.loop-v.invariant.held
-          (subst (λ (r : Option Condition). IsFirstOrNone (holds s table c.v-item.result) conditions r) none c.in_ok-condition.ensures);
+          (subst (λ (r : Option Condition). IsFirstOrNone (condition_holds s table c.v-item.result) conditions r) none c.in_ok-condition.ensures);
     })
 
 -- the vertex is the first that fails, by this condition
@@ -42,7 +42,7 @@ first_failure c =
     let table : List Correction = c.args.t.now.table in
     first_there s table c.order-v-items.result.now c.loop-v.v-index c.v-item.result c.order-v-items.ensures.value c.order-v-items.ensures.valid
     c.loop-v-test.true c.v-item.is c.loop-v.invariant.held c.in-Some.condition
-    (subst (λ (r : Option Condition). IsFirstOrNone (holds s table c.v-item.result) conditions r) c.in-Some.is c.in_ok-condition.ensures)
+    (subst (λ (r : Option Condition). IsFirstOrNone (condition_holds s table c.v-item.result) conditions r) c.in-Some.is c.in_ok-condition.ensures)
 
 pub returns-in-Some-clause-flow : goal.returns-in-Some-clause-flow
 returns-in-Some-clause-flow c =

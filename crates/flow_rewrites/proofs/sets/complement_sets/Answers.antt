@@ -4,10 +4,9 @@ use Rattle.std.proofs.lemmas.Bool.{false≢true}
 use Rattle.zx_model.specs.Bits.{member}
 use Rattle.zx_calculus.proofs.Positions.{on_ok}
 use Rattle.gflow_laws.specs.Seen.{seen}
-use Rattle.gflow_laws.specs.Flow.{order_of, set_of}
+use Rattle.gflow_laws.specs.Flow.{order_of, set_of, odd_in}
 use Rattle.gflow_laws.specs.Internal.Changes.{AreChanged}
 use Rattle.gflow_laws.proofs.SetChanges.{changed_grows}
-use Rattle.gflow_laws.specs.Correcting.{odd_in}
 use Rattle.open_graph.specs.Rooms.{Room}
 use Rattle.zx_flow.specs.Internal.Beside.{beside_change}
 use Rattle.zx_flow.proofs.Beside.{own_kept_beside, beside_same, complement_last}

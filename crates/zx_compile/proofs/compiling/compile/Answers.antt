@@ -3,9 +3,9 @@ use Rattle.std.proofs.Common.{◌≢◌, [], ◌≤◌, sym, ◌∙◌, length, 
 use Rattle.zx_model.specs.Proportional.{Proportional}
 use Rattle.zx_model.proofs.ProportionalLemmas.{proportional_trans}
 use Rattle.zx_model.proofs.Scalars.{scaled_proportional}
-use Rattle.zx_calculus.specs.Sum as graph
+use Rattle.zx_calculus.specs.Sum.{graph_sum}
 use Rattle.zx_calculus.specs.Counts.{odd_phases}
-use Rattle.zx_diagram.specs.Sum.{sum}
+use Rattle.zx_diagram.specs.Sum.{diagram_sum}
 use Rattle.flow_find.specs.Stuck.{IsLargestStuck}
 use Rattle.flow_find.specs.Found.{IfNoFlow}
 use Rattle.zx_gates.specs.Circuit.{most_qubits}
@@ -38,10 +38,10 @@ returns-in_ok-simplified-in-Flow-clause-map c =
     let n = length d.inputs in
     let high = length g.outputs in
     let square = sym c.requires.square in
-    proportional_trans n n (sum d) (graph.sum g) (amp gates)
-    (subst (λ k. Proportional n k (sum d) (graph.sum g)) square c.in_ok-graph.ensures.map)
-    (subst (λ k. Proportional k k (graph.sum g) (amp gates)) (form_outputs d g c.in_ok-graph.ensures.form ∙ square)
-    (scaled_proportional high high (graph.sum g) (amp gates) made.scalar c.in_ok-simplified-in-Flow.ensures.simplifies.kept.scaled))
+    proportional_trans n n (diagram_sum d) (graph_sum g) (amp gates)
+    (subst (λ k. Proportional n k (diagram_sum d) (graph_sum g)) square c.in_ok-graph.ensures.map)
+    (subst (λ k. Proportional k k (graph_sum g) (amp gates)) (form_outputs d g c.in_ok-graph.ensures.form ∙ square)
+    (scaled_proportional high high (graph_sum g) (amp gates) made.scalar c.in_ok-simplified-in-Flow.ensures.simplifies.kept.scaled))
 
 pub returns-in_ok-simplified-in-Flow-clause-few_gates : goal.returns-in_ok-simplified-in-Flow-clause-few_gates
 returns-in_ok-simplified-in-Flow-clause-few_gates c =

@@ -1,7 +1,7 @@
 -- The frontier begins as the graph.
 use Rattle.std.proofs.Common.{◌≡◌, ◌≢◌, ◌≤◌, ℕ, sym, subst, length}
 use Rattle.std.specs.Prelude.{IfOk}
-use Rattle.zx_calculus.specs.Graph.{XZ, Graph, Live, plane_of}
+use Rattle.zx_calculus.specs.Graph.{XZ, Graph, IsVertex, plane_of}
 use Rattle.zx_gates.specs.Circuit.{most_qubits}
 use Rattle.zx_extract.specs.Internal.Extracted.{IsCircuitOf}
 use Rattle.zx_extract.proofs.Calls.{if_ok}
@@ -9,7 +9,7 @@ use Rattle.zx_extract.proofs.extraction.extract.Goals as goal
 
 pub take_apart-requires-clause-planes : goal.take_apart-requires-clause-planes
 take_apart-requires-clause-planes c =
-    subst (λ (g : Graph). (v : ℕ) → Live g v → plane_of g v ≢ XZ) (sym c.in_ok-frontier.ensures.graph) c.requires.planes
+    subst (λ (g : Graph). (v : ℕ) → IsVertex g v → plane_of g v ≢ XZ) (sym c.in_ok-frontier.ensures.graph) c.requires.planes
 
 pub take_apart-requires-clause-ends : goal.take_apart-requires-clause-ends
 take_apart-requires-clause-ends c =

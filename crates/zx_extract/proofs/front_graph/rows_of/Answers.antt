@@ -1,7 +1,7 @@
 -- One more row.
 use Rattle.std.proofs.Common.{◌≡◌, ◌∙◌, ◌+◌, ap, subst, sym, refl, List, ◌++◌, [], ◌∷◌, take}
 use Rattle.std.specs.Prelude.{slice_get, Some}
-use Rattle.zx_calculus.specs.Graph.{End, end_vertices, Live}
+use Rattle.zx_calculus.specs.Graph.{End, end_vertices, IsVertex}
 use Rattle.circuit_laws.proofs.Places.{output_there}
 use Rattle.zx_extract.specs.Internal.FrontGraphs.{HasRows}
 use Rattle.zx_extract.proofs.Fronts.{rows_more}
@@ -14,7 +14,7 @@ inner_row-requires c =
     let at : slice_get items c.loop-output.output-index ≡ Some c.output-item.result =
     read_at items items c.loop-output.output-index c.loop-output.output-index c.output-item.result refl refl
     c.loop-output-test.true c.output-item.is in
-    subst (Live c.args.g.now.graph) (sym (ap (λ (e : End). e.vertex) c.output.view_is))
+    subst (IsVertex c.args.g.now.graph) (sym (ap (λ (e : End). e.vertex) c.output.view_is))
     (output_there c.args.g.now.graph c.loop-output.output-index c.output-item.result c.outputs-output-items.ensures.valid
     (ap (λ es. slice_get es c.loop-output.output-index) (sym c.outputs-output-items.ensures.value) ∙ at))
 

@@ -1,5 +1,5 @@
 -- Both circuits may be taken.
-use Rattle.zx_optimise.proofs.CandidateLemmas.{candidate-whole, no_dearer-trans, taken_cheap, taken-trans, than_teleported}
+use Rattle.zx_optimise.proofs.CandidateLemmas.{candidate-whole, costs_no_more-trans, taken_cheap, taken-trans, than_teleported}
 use Rattle.zx_optimise.proofs.optimiser.beside_teleported.Goals as goal
 
 pub cheaper-requires-clause-candidate : goal.cheaper-requires-clause-candidate
@@ -14,7 +14,7 @@ returns-clause-than_teleported c =
     let between = c.cheaper.result in
     let teleported = c.in_ok-teleported.teleported in
     than_teleported c.args.read.now made.gates teleported.gates c.in_ok-teleported.ensures.cleanup
-    (λ within. no_dearer-trans made.gates between.gates teleported.gates
+    (λ within. costs_no_more-trans made.gates between.gates teleported.gates
     (taken_cheap between made (taken-trans between c.cheaper-best.result made c.cheaper-best.ensures.than_best c.beside_fewer.ensures.than_best))
     (c.cheaper.ensures.than_candidate within))
 

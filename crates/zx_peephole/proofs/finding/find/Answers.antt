@@ -25,14 +25,14 @@ returns-then-is_pair-clause-found c =
     stops_as_pair c.args.work.now c.requires c.index-gate.result.now c.index-gate.ensures c.in_ok-stop.stop
     (subst (λ (n : ℕ). IsStop c.args.work.now.gates.items c.index-gate.result.now n c.in_ok-stop.stop) c.start.ensures.place
     c.in_ok-stop.ensures.found) c.index-earlier.result.now c.index-earlier.ensures
-    (sym c.is_pair.ensures ∙ c.if-is_pair.true)
+    (sym c.cancels_or_merges.ensures ∙ c.if-is_pair.true)
 
 pub returns-then-not-turns-clause-none : goal.returns-then-not-turns-clause-none
 returns-then-not-turns-clause-none c =
     stops_straight c.args.work.now c.requires c.index-gate.result.now c.index-gate.ensures c.in_ok-stop.stop
     (subst (λ (n : ℕ). IsStop c.args.work.now.gates.items c.index-gate.result.now n c.in_ok-stop.stop) c.start.ensures.place
     c.in_ok-stop.ensures.found) c.index-earlier.result.now c.index-earlier.ensures
-    (sym c.is_pair.ensures ∙ c.if-is_pair.false) (sym c.turns.ensures ∙ c.if-not-turns.true)
+    (sym c.cancels_or_merges.ensures ∙ c.if-is_pair.false) (sym c.turns.ensures ∙ c.if-not-turns.true)
 
 pub returns-in_err-first-clause-none : goal.returns-in_err-first-clause-none
 returns-in_err-first-clause-none c =
@@ -40,7 +40,7 @@ returns-in_err-first-clause-none c =
     (nothing_before c.args.work.now c.requires c.index-gate.result.now c.index-gate.ensures c.in_ok-stop.stop
     (subst (λ (n : ℕ). IsStop c.args.work.now.gates.items c.index-gate.result.now n c.in_ok-stop.stop) c.start.ensures.place
     c.in_ok-stop.ensures.found) c.index-earlier.result.now c.index-earlier.ensures
-    (sym c.is_pair.ensures ∙ c.if-is_pair.false)
+    (sym c.cancels_or_merges.ensures ∙ c.if-is_pair.false)
     (subst (λ (n : ℕ). IsFreeBetween c.args.work.now.gates.items c.index-gate.result.now 0 n) c.before-2.ensures.place
     c.in_err-first.ensures.none))
 
@@ -51,7 +51,7 @@ returns-then-is_pair-2-clause-found c =
     c.in_ok-stop.ensures.found) c.index-earlier.result.now c.index-earlier.ensures c.in_ok-first.first
     (subst (λ (n : ℕ). IsStop c.args.work.now.gates.items c.index-gate.result.now n c.in_ok-first.first) c.before-2.ensures.place
     c.in_ok-first.ensures.found) c.index.result.now c.index.ensures
-    (sym c.turns.ensures ∙ c.if-not-turns.false) (sym c.is_pair-2.ensures ∙ c.if-is_pair-2.true)
+    (sym c.turns.ensures ∙ c.if-not-turns.false) (sym c.cancels_or_merges-2.ensures ∙ c.if-is_pair-2.true)
 
 pub returns-else-is_pair-2-clause-none : goal.returns-else-is_pair-2-clause-none
 returns-else-is_pair-2-clause-none c =
@@ -60,4 +60,4 @@ returns-else-is_pair-2-clause-none c =
     c.in_ok-stop.ensures.found) c.index-earlier.result.now c.index-earlier.ensures c.in_ok-first.first
     (subst (λ (n : ℕ). IsStop c.args.work.now.gates.items c.index-gate.result.now n c.in_ok-first.first) c.before-2.ensures.place
     c.in_ok-first.ensures.found) c.index.result.now c.index.ensures
-    (sym c.is_pair.ensures ∙ c.if-is_pair.false) (sym c.is_pair-2.ensures ∙ c.if-is_pair-2.false)
+    (sym c.cancels_or_merges.ensures ∙ c.if-is_pair.false) (sym c.cancels_or_merges-2.ensures ∙ c.if-is_pair-2.false)

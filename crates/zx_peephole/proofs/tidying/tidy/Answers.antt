@@ -1,7 +1,7 @@
 -- Each step shortens the list, and at the end all that is left is kept.
 use Rattle.std.proofs.Common.{ℕ, ◌≤◌, List, length, refl, sym, ap, ◌∙◌, subst, arith}
 use Rattle.zx_gates.specs.declared.gate.Gate.{Gate}
-use Rattle.zx_gates.specs.Circuit.{Circuit, gate_bound}
+use Rattle.zx_gates.specs.Circuit.{Circuit, gate_limit}
 use Rattle.zx_model.specs.Scalar.{IsScaled, IsWithin}
 use Rattle.zx_model.proofs.Scalars.{scaled_refl}
 use Rattle.zx_model.specs.declared.scalar.Scalar.{Scalar}
@@ -44,7 +44,7 @@ returns-then-is_empty-clause-kept c = record {
   qubits = refl;
   scaled = subst (λ (s : Scalar). IsScaled c.args.g.now.qubits c.args.g.now.qubits (amp c.args.g.now.gates) s (amp c.args.g.now.gates))
       (sym c.one.ensures) (scaled_refl c.args.g.now.qubits c.args.g.now.qubits (amp c.args.g.now.gates));
-  small = subst (IsWithin gate_bound) (sym c.one.ensures) (omega arith);
+  small = subst (IsWithin gate_limit) (sym c.one.ensures) (omega arith);
   odd = omega arith;
 }
 

@@ -1,6 +1,6 @@
 -- One pass more, and cleanup at the end.
 use Rattle.std.proofs.Common.{◌≤◌, ◌<◌, ◌+◌, ◌*◌, ℕ, arith}
-use Rattle.zx_gates.specs.Circuit.{gate_bound}
+use Rattle.zx_gates.specs.Circuit.{gate_limit}
 use Rattle.zx_gates.proofs.Passing.{implements_preserved, product_fits}
 use Rattle.piece_laws.proofs.Replacements.{no_larger-trans}
 use Rattle.zx_pieces.specs.Scaling.{most_root2_of_pass, most_root2_of_passes}
@@ -24,7 +24,7 @@ loop-number-preserved c = record {
     once_more i k = omega arith
 
 -- after all passes and cleanup
-fits : (passes end : ℕ) → passes ≤ end → end ≤ 18 → (passes + 1) * most_root2_of_pass + gate_bound ≤ most_root2_of_passes
+fits : (passes end : ℕ) → passes ≤ end → end ≤ 18 → (passes + 1) * most_root2_of_pass + gate_limit ≤ most_root2_of_passes
 fits passes end all few = omega (arith, all, few)
 
 pub times-scalar-requires-2 : goal.times-scalar-requires-2

@@ -5,7 +5,7 @@ use Rattle.zx_model.specs.Phase.{turn}
 use Rattle.zx_model.specs.Scalar.{IsWithin, most_root2, product_of_scalars, quotient_of_scalars}
 use Rattle.zx_model.specs.declared.scalar.Scalar.{Scalar}
 use Rattle.zx_model.proofs.Scalars.{within_product}
-use Rattle.zx_gates.specs.Circuit.{Circuit, IsCircuit, gate_bound}
+use Rattle.zx_gates.specs.Circuit.{Circuit, IsCircuit, gate_limit}
 use Rattle.zx_gates.specs.Elementary.{elementary_bound}
 use Rattle.zx_optimise.specs.Optimising.{most_optimised_root2}
 use Rattle.zx_run.proofs.OptimiseLemmas.{IsOptimisedText-written, measured_behind}
@@ -26,7 +26,7 @@ returns c = λ text accepted.
     (search (rules, c.in_ok-extend_from_slice.ensures.items, c.in_ok-output.ensures.text, c.in_ok-push_scalar_if.ensures, c.in_ok-lines.ensures))
 
 -- three scalars fit, whose exponents are as small as the circuits
-fits : (elements gates : ℕ) (s t u : Scalar) → elements < elementary_bound → gates < gate_bound → IsWithin (2 * elements) s → IsWithin most_optimised_root2 t →
+fits : (elements gates : ℕ) (s t u : Scalar) → elements < elementary_bound → gates < gate_limit → IsWithin (2 * elements) s → IsWithin most_optimised_root2 t →
     IsWithin (4 * gates) u → IsWithin most_root2 (quotient_of_scalars (product_of_scalars s t) u)
 fits elements gates s t u few fewer p q r =
     difference (s.root2 +ℤ t.root2) u.root2 (omega (arith, few, within_product (2 * elements) most_optimised_root2 s t p q)) (omega (arith, fewer, r))
@@ -38,5 +38,5 @@ pub over-scalar-requires : goal.over-scalar-requires
 over-scalar-requires c =
     subst (λ (s : Scalar). IsWithin most_root2 (quotient_of_scalars s c.text_scalar-own.result)) (sym c.times.ensures)
     (fits (length c.args.read.now.gates) (length c.in_ok-optimised.optimised.gates.gates) c.in_ok-lowered.lowered.scalar c.in_ok-optimised.optimised.scalar c.text_scalar-own.result
-    c.requires.few_gates (subst (λ (d : Circuit). length d.gates < gate_bound) c.circuit.view_is c.circuit.invariant.few_gates)
+    c.requires.few_gates (subst (λ (d : Circuit). length d.gates < gate_limit) c.circuit.view_is c.circuit.invariant.few_gates)
     c.in_ok-lowered.ensures.kept.small c.in_ok-optimised.ensures.optimises.kept.small c.text_scalar-own.ensures.small)

@@ -5,7 +5,7 @@ use Rattle.std.proofs.lemmas.Bool.{or_cases}
 use Rattle.zx_model.specs.Proportional.{Proportional}
 use Rattle.zx_model.specs.Scalar.{product_of_scalars}
 use Rattle.zx_model.proofs.Scalars.{scaled_proportional}
-use Rattle.zx_calculus.specs.Sum.{sum}
+use Rattle.zx_calculus.specs.Sum.{graph_sum}
 use Rattle.zx_calculus.proofs.Ids.{or-left, or-right}
 use Rattle.zx_gates.specs.Circuit.{IsOnQubits}
 use Rattle.zx_gates.specs.Maps.{amp}
@@ -33,7 +33,7 @@ returns-then-is_nothing-clause-identity c =
     let on : All (IsOnQubits n) circuit.gates = λ k d within. (c.gates.ensures.valid.on_qubits k d within).0 in
     elim (or_cases c.is_bare-bare.result (nat_eq (length made.gates.gates) 0) (sym c.is_nothing.ensures ∙ c.if-is_nothing.true)) [
       | inl bare ↦ bare_seen circuit grown.graph.graph g.well_formed g.inputs
-          (scaled_proportional n n (amp circuit.gates) (sum grown.graph.graph) grown.scalar g.scaled) (sym c.is_bare-bare.ensures ∙ bare)
+          (scaled_proportional n n (amp circuit.gates) (graph_sum grown.graph.graph) grown.scalar g.scaled) (sym c.is_bare-bare.ensures ∙ bare)
       | inr none ↦ subst (λ gates. Proportional n n (amp circuit.gates) (amp gates)) (no_gates made.gates.gates none)
           (scaled_proportional n n (amp circuit.gates) (amp made.gates.gates) (product_of_scalars grown.scalar made.scalar)
           (simplified_whole circuit grown.graph.graph grown.flow.flow grown.scalar made.gates made.scalar (product_of_scalars grown.scalar made.scalar) on g

@@ -6,8 +6,8 @@ use Rattle.zx_model.proofs.Scalars.{scaled_proportional}
 use Rattle.zx_calculus.specs.Counts.{odd_phases}
 use Rattle.zx_calculus.specs.Graph.{Graph}
 use Rattle.zx_calculus.specs.Steps.{IsRun}
-use Rattle.zx_calculus.specs.Sum.{sum}
-use Rattle.zx_gates.specs.Circuit.{gate_bound, gate_odd_phases}
+use Rattle.zx_calculus.specs.Sum.{graph_sum}
+use Rattle.zx_gates.specs.Circuit.{gate_limit, gate_odd_phases}
 use Rattle.zx_gates.specs.Maps.{amp}
 use Rattle.zx_gates.specs.Passes.{Implements}
 use Rattle.zx_gates.proofs.Passing.{implements_more, implements_scaled}
@@ -18,7 +18,7 @@ use Rattle.zx_same.proofs.Comparisons.{from_circuit, bound_rises}
 use Rattle.zx_same.proofs.comparing.simplified.Goals as goal
 
 -- how large the scalars of the translation and of its simplification are
-fits : (gates : ℕ) → gates < gate_bound → 4 * gates + most_simplified_root2 ≤ most_left_root2
+fits : (gates : ℕ) → gates < gate_limit → 4 * gates + most_simplified_root2 ≤ most_left_root2
 fits gates few = omega (arith, few)
 
 pub returns : goal.returns
@@ -31,9 +31,9 @@ returns c =
     let made = c.in_ok-made.made in
     let n = circuit.qubits in
     let o = length start.outputs in
-    let scaled = subst (λ (s : Scalar). IsScaled n n (amp circuit.gates) s (sum start)) (sym read.scalar) f.scaled in
-    let to_start = scaled_proportional n n (amp circuit.gates) (sum start) c.in_ok-read.read.scalar scaled in
-    let rest = subst (λ m. Implements m (sum start) (odd_phases start) most_simplified_root2 made.gates made.scalar) f.outputs r.kept in
+    let scaled = subst (λ (s : Scalar). IsScaled n n (amp circuit.gates) s (graph_sum start)) (sym read.scalar) f.scaled in
+    let to_start = scaled_proportional n n (amp circuit.gates) (graph_sum start) c.in_ok-read.read.scalar scaled in
+    let rest = subst (λ m. Implements m (graph_sum start) (odd_phases start) most_simplified_root2 made.gates made.scalar) f.outputs r.kept in
     let whole : Implements n (amp circuit.gates) (odd_phases start) most_left_root2 made.gates c.times-made.result =
     implements_scaled (4 * length circuit.gates) c.in_ok-read.read.scalar scaled read.small rest c.times-made.ensures
     (fits (length circuit.gates) c.gates.ensures.few) in
@@ -44,7 +44,7 @@ returns c =
       inputs = r.inputs ∙ f.inputs;
       outputs = r.outputs ∙ f.outputs;
       fewer = le_trans r.fewer f.odd;
-      reduced_map = from_circuit n (length start.inputs) o start (amp circuit.gates) (sum made.reduced.graph) f.inputs f.outputs to_start r.reduced_map;
+      reduced_map = from_circuit n (length start.inputs) o start (amp circuit.gates) (graph_sum made.reduced.graph) f.inputs f.outputs to_start r.reduced_map;
       kept = implements_more whole f.odd (le_refl most_left_root2);
       tidy = r.tidy;
       few = bound_rises n o (odd_phases start) (gate_odd_phases circuit.gates) (length made.gates.gates) f.outputs f.odd r.few_gates;

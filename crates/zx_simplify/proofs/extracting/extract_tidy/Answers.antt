@@ -4,7 +4,7 @@ use Rattle.std.proofs.lemmas.List.Sums.{length-filter, count_by-le-length}
 use Rattle.zx_calculus.specs.Graph.{Graph, Vertex, is_XY}
 use Rattle.zx_calculus.specs.Counts.{not_XY}
 use Rattle.zx_extract.proofs.SimplifiedLemmas.{no_XZ}
-use Rattle.zx_gates.specs.Circuit.{gate_bound}
+use Rattle.zx_gates.specs.Circuit.{gate_limit}
 use Rattle.open_graph.specs.OpenGraph.{most_vertices_in_memory}
 use Rattle.zx_gates.proofs.Passing.{implements_preserved, product_fits}
 use Rattle.zx_simplify.proofs.extracting.extract_tidy.Goals as goal
@@ -19,7 +19,7 @@ few_doublings g few =
     omega (arith, few, length-filter p g.vertices, count_by-le-length p g.vertices)
 
 -- the scalars of extraction and cleanup
-fits : (g : Graph) → length g.vertices ≤ most_vertices_in_memory → 2 * not_XY g + gate_bound ≤ 2 * most_vertices_in_memory + gate_bound
+fits : (g : Graph) → length g.vertices ≤ most_vertices_in_memory → 2 * not_XY g + gate_limit ≤ 2 * most_vertices_in_memory + gate_limit
 fits g few = omega (arith, few_doublings g few)
 
 pub times-requires : goal.times-requires

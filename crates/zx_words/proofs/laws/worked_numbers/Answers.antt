@@ -1,53 +1,53 @@
 -- The words that are written out compute.
 use Rattle.std.proofs.Common.{refl}
 use Rattle.std.specs.Fmt.{digits}
-use Rattle.zx_words.specs.Command.{number_in}
+use Rattle.zx_words.specs.Command.{numeral_in}
 use Rattle.zx_words.proofs.laws.worked_numbers.Goals as goal
 
 pub returns-clause-numbers : goal.returns-clause-numbers
-unfolding number_in digits
+unfolding numeral_in digits
 returns-clause-numbers c = refl
 
 pub returns-clause-greatest : goal.returns-clause-greatest
-unfolding number_in digits
+unfolding numeral_in digits
 returns-clause-greatest c = refl
 
 pub returns-clause-seed : goal.returns-clause-seed
-unfolding number_in digits
+unfolding numeral_in digits
 returns-clause-seed c = refl
 
 pub returns-clause-no_qubits : goal.returns-clause-no_qubits
-unfolding number_in digits
+unfolding numeral_in digits
 returns-clause-no_qubits c = refl
 
 pub returns-clause-qubits : goal.returns-clause-qubits
-unfolding number_in digits
+unfolding numeral_in digits
 returns-clause-qubits c = refl
 
 pub returns-clause-gates : goal.returns-clause-gates
-unfolding number_in digits
+unfolding numeral_in digits
 returns-clause-gates c = refl
 
 pub returns-clause-zero : goal.returns-clause-zero
-unfolding number_in digits
+unfolding numeral_in digits
 returns-clause-zero c = refl
 
 pub returns-clause-sign : goal.returns-clause-sign
-unfolding number_in digits
+unfolding numeral_in digits
 returns-clause-sign c = refl
 
 pub returns-clause-too_few : goal.returns-clause-too_few
-unfolding number_in digits
+unfolding numeral_in digits
 returns-clause-too_few c = refl
 
 pub returns-clause-too_many : goal.returns-clause-too_many
-unfolding number_in digits
+unfolding numeral_in digits
 returns-clause-too_many c = refl
 
 pub returns-clause-separator : goal.returns-clause-separator
-unfolding number_in digits
+unfolding numeral_in digits
 returns-clause-separator c = refl
 
 pub returns-clause-separators : goal.returns-clause-separators
-unfolding number_in digits
+unfolding numeral_in digits
 returns-clause-separators c = refl

@@ -14,6 +14,6 @@ returns-in_err-get_str-clause-value c =
 
 pub returns-clause-value : goal.returns-clause-value
 returns-clause-value c =
-    c.number_in.ensures.value
+    c.numeral_in.ensures.value
     ∙ number_given c.args.name.now c.args.most (rows_of (found_of c.args.given.now)) c.in_ok-get_str.field-0.now
     (c.in_ok-get_str.ensures ∙ first_value-rows (found_of c.args.given.now) c.args.name.now)

@@ -9,7 +9,7 @@ use Rattle.std.proofs.lemmas.Result.{on_ok_weaker}
 
 pub toggle_edge-requires-clause-u_live : goal.toggle_edge-requires-clause-u_live
 toggle_edge-requires-clause-u_live c =
-    here_still_live (graph_so_far c.args.self.now) c.args.q c.present-here.result c.in_ok-next.next c.new.result c.add_vertex.new.self.graph c.requires.ready c.present-here.ensures c.in_ok-next.ensures.fresh c.new.ensures c.in_ok-next.ensures.ok
+    here_still_live (graph_so_far c.args.self.now) c.args.q c.last_spider-here.result c.in_ok-next.next c.new.result c.add_vertex.new.self.graph c.requires.ready c.last_spider-here.ensures c.in_ok-next.ensures.fresh c.new.ensures c.in_ok-next.ensures.ok
 
 pub toggle_edge-requires-clause-v_live : goal.toggle_edge-requires-clause-v_live
 toggle_edge-requires-clause-v_live c =
@@ -17,30 +17,30 @@ toggle_edge-requires-clause-v_live c =
 
 pub toggle_edge-requires-clause-different : goal.toggle_edge-requires-clause-different
 toggle_edge-requires-clause-different c =
-    here_apart (graph_so_far c.args.self.now) c.args.q c.present-here.result c.in_ok-next.next c.new.result c.add_vertex.new.self.graph c.requires.ready c.present-here.ensures c.in_ok-next.ensures.fresh c.new.ensures c.in_ok-next.ensures.ok
+    here_apart (graph_so_far c.args.self.now) c.args.q c.last_spider-here.result c.in_ok-next.next c.new.result c.add_vertex.new.self.graph c.requires.ready c.last_spider-here.ensures c.in_ok-next.ensures.fresh c.new.ensures c.in_ok-next.ensures.ok
 
 pub move_output-requires-clause-live : goal.move_output-requires-clause-live
 move_output-requires-clause-live c =
     rw c.plain.ensures
-    (next_still_live (graph_so_far c.args.self.now) c.args.q c.present-here.result c.in_ok-next.next c.new.result c.add_vertex.new.self.graph c.requires.ready c.present-here.ensures c.in_ok-next.ensures.fresh c.new.ensures c.in_ok-next.ensures.ok c.toggle_edge.new.self.graph c.in_ok-toggle_edge.ensures.ok)
+    (next_still_live (graph_so_far c.args.self.now) c.args.q c.last_spider-here.result c.in_ok-next.next c.new.result c.add_vertex.new.self.graph c.requires.ready c.last_spider-here.ensures c.in_ok-next.ensures.fresh c.new.ensures c.in_ok-next.ensures.ok c.toggle_edge.new.self.graph c.in_ok-toggle_edge.ensures.ok)
 
 pub move_output-requires-clause-plane : goal.move_output-requires-clause-plane
 move_output-requires-clause-plane c =
     rw c.plain.ensures
-    (next_plane (graph_so_far c.args.self.now) c.args.q c.present-here.result c.in_ok-next.next c.new.result c.add_vertex.new.self.graph c.requires.ready c.present-here.ensures c.in_ok-next.ensures.fresh c.new.ensures c.in_ok-next.ensures.ok c.toggle_edge.new.self.graph c.in_ok-toggle_edge.ensures.ok)
+    (next_plane (graph_so_far c.args.self.now) c.args.q c.last_spider-here.result c.in_ok-next.next c.new.result c.add_vertex.new.self.graph c.requires.ready c.last_spider-here.ensures c.in_ok-next.ensures.fresh c.new.ensures c.in_ok-next.ensures.ok c.toggle_edge.new.self.graph c.in_ok-toggle_edge.ensures.ok)
 
 pub move_output-requires-clause-free : goal.move_output-requires-clause-free
 move_output-requires-clause-free c =
     rw c.plain.ensures
-    (next_free (graph_so_far c.args.self.now) c.args.q c.present-here.result c.in_ok-next.next c.new.result c.add_vertex.new.self.graph c.requires.ready c.present-here.ensures c.in_ok-next.ensures.fresh c.new.ensures c.in_ok-next.ensures.ok c.toggle_edge.new.self.graph c.in_ok-toggle_edge.ensures.ok _)
+    (next_free (graph_so_far c.args.self.now) c.args.q c.last_spider-here.result c.in_ok-next.next c.new.result c.add_vertex.new.self.graph c.requires.ready c.last_spider-here.ensures c.in_ok-next.ensures.fresh c.new.ensures c.in_ok-next.ensures.ok c.toggle_edge.new.self.graph c.in_ok-toggle_edge.ensures.ok _)
 
 pub add-requires-clause-fresh : goal.add-requires-clause-fresh
 add-requires-clause-fresh c =
-    here_uncorrected (graph_so_far c.args.self.now) c.args.q c.present-here.result c.in_ok-next.next c.new.result c.add_vertex.new.self.graph c.requires.ready c.present-here.ensures c.in_ok-next.ensures.fresh c.new.ensures c.in_ok-next.ensures.ok c.toggle_edge.new.self.graph c.in_ok-toggle_edge.ensures.ok
+    here_uncorrected (graph_so_far c.args.self.now) c.args.q c.last_spider-here.result c.in_ok-next.next c.new.result c.add_vertex.new.self.graph c.requires.ready c.last_spider-here.ensures c.in_ok-next.ensures.fresh c.new.ensures c.in_ok-next.ensures.ok c.toggle_edge.new.self.graph c.in_ok-toggle_edge.ensures.ok
 
 pub returns-clause-step : goal.returns-clause-step
 returns-clause-step c =
-    on_ok_weaker c.add.result (λ same. spider_step (graph_so_far c.args.self.now) c.args.q c.present-here.result c.in_ok-next.next c.new.result c.add_vertex.new.self.graph c.requires.ready c.present-here.ensures c.in_ok-next.ensures.fresh c.new.ensures c.in_ok-next.ensures.ok c.toggle_edge.new.self.graph c.in_ok-toggle_edge.ensures.ok _
+    on_ok_weaker c.add.result (λ same. spider_step (graph_so_far c.args.self.now) c.args.q c.last_spider-here.result c.in_ok-next.next c.new.result c.add_vertex.new.self.graph c.requires.ready c.last_spider-here.ensures c.in_ok-next.ensures.fresh c.new.ensures c.in_ok-next.ensures.ok c.toggle_edge.new.self.graph c.in_ok-toggle_edge.ensures.ok _
     c.in_ok-next.ensures.least
     (c.move_output.ensures.ok
     ∙ ap₂ (λ i e. record {

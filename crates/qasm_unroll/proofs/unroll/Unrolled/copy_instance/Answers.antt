@@ -4,7 +4,7 @@ use Rattle.std.proofs.lemmas.Bool.Decides.{nat_tests}
 use Rattle.std.proofs.lemmas.List.{length-map}
 use Rattle.qasm_unroll.specs.Internal.KeptCalls.{renamed}
 use Rattle.qasm_unroll.specs.Internal.KnownCalls.{at, known_of}
-use Rattle.qasm_unroll.specs.Internal.Spans.{cut_instance, cut_place_at, span_range}
+use Rattle.qasm_unroll.specs.Internal.Spans.{cut_instance, cut_element_at, span_range}
 use Rattle.qasm_unroll.proofs.KnownLemmas.{copied-call}
 use Rattle.qasm_unroll.proofs.unroll.Unrolled.copy_instance.Goals as goal
 
@@ -15,7 +15,7 @@ returns-clause-copied c = λ copied numbered gates count unrolls known.
     let kept = c.in-Some.kept.now in
     let none : length c.args.angles.now ≡ 0 = grind (arith, nat_tests, c.is_empty.ensures, c.if-not-is_empty.false) in
     let there = ap (λ list. known_of list c.args.called) (sym c.deref.ensures.value) ∙ c.in-Some.ensures in
-    let few : length called_on ≤ 4 = omega (arith, length-map ranges (cut_place_at c.args.index), length-map c.args.spans.now span_range, c.if-spans-gt-WIDEST.false) in
+    let few : length called_on ≤ 4 = omega (arith, length-map ranges (cut_element_at c.args.index), length-map c.args.spans.now span_range, c.if-spans-gt-WIDEST.false) in
     let calls : c.saturating_add-calls.result ≡ c.args.self.now.calls + kept.calls = omega (arith, c.saturating_add-calls.ensures, c.if-calls-gt-MOST_CALLS.false) in
     let qubits : c.deref-2.result.now ≡ 0 ∷ called_on =
     c.deref-2.ensures.value ∙ c.in_ok-push_instance.ensures ∙ ap (λ qs. qs ++ called_on) (c.in_ok-push.ensures.items ∙ ap (λ qs. qs ++ 0 ∷ []) c.clear.ensures.items) in

@@ -2,20 +2,19 @@
 use Rattle.std.proofs.Common.{◌≡◌, ◌∙◌, false, ne_eqb, set, ap, subst, sym}
 use Rattle.std.proofs.lemmas.Result.{on_ok_weaker}
 use Rattle.zx_model.specs.Bits.{member}
-use Rattle.zx_calculus.specs.Graph.{XY, Graph, ids, kind_of, plane_of, end_vertices, Live}
+use Rattle.zx_calculus.specs.Graph.{XY, Graph, ids, kind_of, plane_of, end_vertices, IsVertex, plain}
 use Rattle.zx_calculus.specs.Edits.{IsRemoval}
-use Rattle.zx_calculus.specs.Worked.{plain}
 use Rattle.circuit_laws.specs.Peeling.{HasPlainOutput}
 use Rattle.zx_extract.specs.Internal.FrontGraphs.{FrontGraph, front_graph}
 use Rattle.zx_extract.proofs.Fronts.{met_in_range, met_free, moved_is, here_live, here_interior, advanced_on}
 use Rattle.zx_extract.proofs.front_graph.FrontGraph.move_output.Goals as goal
 
 pub inner_row-requires : goal.inner_row-requires
-inner_row-requires c = subst (λ (f : FrontGraph). Live f.graph c.args.v) (sym c.self.view_is) c.requires.live
+inner_row-requires c = subst (λ (f : FrontGraph). IsVertex f.graph c.args.v) (sym c.self.view_is) c.requires.live
 
 pub meet_outputs-requires : goal.meet_outputs-requires
 meet_outputs-requires c = record {
-  live = subst (λ (f : FrontGraph). Live f.graph c.args.v) (sym c.self.view_is) c.requires.live;
+  live = subst (λ (f : FrontGraph). IsVertex f.graph c.args.v) (sym c.self.view_is) c.requires.live;
   no_output = subst (λ (f : FrontGraph). member c.args.v (end_vertices f.graph.outputs) ≡ false) (sym c.self.view_is)
       c.requires.no_output;
 }
@@ -28,7 +27,7 @@ move_output-requires c =
     record {
       in_range = met_in_range c.args.t c.self.invariant at out c.in_ok-meet_outputs.ensures.met;
       live = rw c.plain.ensures (ap (λ vs. member c.args.v (ids vs)) c.in_ok-meet_outputs.ensures.met.vertices
-          ∙ subst (λ (f : FrontGraph). Live f.graph c.args.v) (sym c.self.view_is) c.requires.live);
+          ∙ subst (λ (f : FrontGraph). IsVertex f.graph c.args.v) (sym c.self.view_is) c.requires.live);
       plane = rw c.plain.ensures (ap (λ vs. (kind_of vs c.args.v).plane) c.in_ok-meet_outputs.ensures.met.vertices
           ∙ subst (λ (f : FrontGraph). plane_of f.graph c.args.v ≡ XY) (sym c.self.view_is) c.requires.plane);
       free = met_free c.args.t c.self.invariant at out c.in_ok-meet_outputs.ensures.met c.plain.ensures;
@@ -52,7 +51,7 @@ returns c =
     let rows = c.self.inside.rows.lists in
     let met = c.meet_outputs.new.g.graph in
     let at = subst (λ (f : FrontGraph). HasPlainOutput f.graph c.args.t c.args.u) (sym c.self.view_is) c.requires.output in
-    let live = subst (λ (f : FrontGraph). Live f.graph c.args.v) (sym c.self.view_is) c.requires.live in
+    let live = subst (λ (f : FrontGraph). IsVertex f.graph c.args.v) (sym c.self.view_is) c.requires.live in
     let out = subst (λ (f : FrontGraph). member c.args.v (end_vertices f.graph.outputs) ≡ false) (sym c.self.view_is)
     c.requires.no_output in
     on_ok_weaker c.forget.result (λ forgotten.

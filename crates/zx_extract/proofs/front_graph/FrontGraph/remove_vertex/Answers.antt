@@ -1,6 +1,6 @@
 -- The vertex stands in no row.
 use Rattle.std.proofs.Common.{subst, sym}
-use Rattle.zx_calculus.specs.Graph.{Live, Interior}
+use Rattle.zx_calculus.specs.Graph.{IsVertex, Interior}
 use Rattle.zx_calculus.specs.Edits.{IsRemoval}
 use Rattle.zx_extract.specs.Internal.FrontGraphs.{FrontGraph, front_graph}
 use Rattle.zx_extract.proofs.Fronts.{vertex_removed}
@@ -10,7 +10,7 @@ pub remove_vertex-requires : goal.remove_vertex-requires
 remove_vertex-requires c =
     let interior = subst (λ (f : FrontGraph). Interior f.graph c.args.v) (sym c.self.view_is) c.requires.interior in
     record {
-      live = subst (λ (f : FrontGraph). Live f.graph c.args.v) (sym c.self.view_is) c.requires.live;
+      live = subst (λ (f : FrontGraph). IsVertex f.graph c.args.v) (sym c.self.view_is) c.requires.live;
       interior = record { no_input = interior.no_input; no_output = interior.no_output };
     }
 

@@ -2,7 +2,7 @@
 use Rattle.std.proofs.Common.{◌≡◌, ◌<◌, ◌∙◌, false, length, remove, set, ap, subst, sym}
 use Rattle.std.specs.Prelude.{slice_get}
 use Rattle.zx_model.specs.Bits.{member}
-use Rattle.zx_calculus.specs.Graph.{XY, plane_of, end_vertices, Live}
+use Rattle.zx_calculus.specs.Graph.{XY, plane_of, end_vertices, IsVertex}
 use Rattle.circuit_laws.proofs.Places.{places-same}
 use Rattle.zx_extract.specs.Internal.FrontGraphs.{FrontGraph}
 use Rattle.zx_extract.proofs.Fronts.{formed, outputs_changed}
@@ -11,7 +11,7 @@ use Rattle.zx_extract.proofs.front_graph.FrontGraph.set_output.Goals as goal
 pub move_output-requires : goal.move_output-requires
 move_output-requires c = record {
   in_range = subst (λ (f : FrontGraph). c.args.i < length f.graph.outputs) (sym c.self.view_is) c.requires.in_range;
-  live = subst (λ (f : FrontGraph). Live f.graph c.args.end.vertex) (sym c.self.view_is) c.requires.live;
+  live = subst (λ (f : FrontGraph). IsVertex f.graph c.args.end.vertex) (sym c.self.view_is) c.requires.live;
   plane = subst (λ (f : FrontGraph). plane_of f.graph c.args.end.vertex ≡ XY) (sym c.self.view_is) c.requires.plane;
   free = subst (λ (f : FrontGraph). member c.args.end.vertex (end_vertices (remove f.graph.outputs c.args.i)) ≡ false)
       (sym c.self.view_is) c.requires.free;

@@ -1,6 +1,6 @@
 -- The edges stay.
 use Rattle.std.proofs.Common.{◌≡◌, ◌∙◌, false, ap, subst, sym}
-use Rattle.zx_calculus.specs.Graph.{XY, is_interior, with_kinds, Live}
+use Rattle.zx_calculus.specs.Graph.{XY, is_interior, with_kinds, IsVertex}
 use Rattle.zx_calculus.specs.Edits.{at_vertex}
 use Rattle.zx_calculus.specs.Turns.{in_plane}
 use Rattle.open_graph.specs.Planes.{plane_named}
@@ -10,7 +10,7 @@ use Rattle.zx_extract.proofs.front_graph.FrontGraph.set_weight.Goals as goal
 
 pub set_weight-requires : goal.set_weight-requires
 set_weight-requires c = record {
-  live = subst (λ (f : FrontGraph). Live f.graph c.args.v) (sym c.self.view_is) c.requires.live;
+  live = subst (λ (f : FrontGraph). IsVertex f.graph c.args.v) (sym c.self.view_is) c.requires.live;
   plane = subst (λ (f : FrontGraph). is_interior f.graph c.args.v ≡ false → plane_named c.args.plane ≡ XY)
       (sym c.self.view_is) c.requires.plane;
 }

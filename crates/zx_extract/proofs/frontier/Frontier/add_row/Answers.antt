@@ -1,7 +1,6 @@
 -- The step that the toggled row is.
 use Rattle.std.proofs.Common.{sym, refl, [], ◌∷◌}
-use Rattle.zx_calculus.specs.Graph.{neighbours}
-use Rattle.zx_calculus.specs.Worked.{plain}
+use Rattle.zx_calculus.specs.Graph.{neighbours, plain}
 use Rattle.zx_calculus.proofs.Programs.{neighbour}
 use Rattle.circuit_laws.proofs.Places.{member-places}
 use Rattle.zx_extract.specs.Internal.Frontiers.{remainder_of}

@@ -2,7 +2,7 @@
 use Rattle.std.proofs.Common.{◌∙◌, ap, set}
 use Rattle.std.specs.Prelude.{slice_get}
 use Rattle.std.proofs.lemmas.Result.{on_ok_weaker}
-use Rattle.zx_calculus.specs.Worked.{plain}
+use Rattle.zx_calculus.specs.Graph.{plain}
 use Rattle.zx_extract.specs.Internal.Frontiers.{remainder_of}
 use Rattle.zx_extract.proofs.VertexCalls.{IsNext, next_of, next_live, next_XY, next_no_output, here_no_input, advance_set, advanced_step}
 use Rattle.zx_extract.proofs.frontier.Frontier.advance.Goals as goal

@@ -1,7 +1,6 @@
 -- The vertex of the output is there, and its row tells.
 use Rattle.std.proofs.Common.{◌∙◌, ap, sym, true≢false}
-use Rattle.zx_calculus.specs.Graph.{joined}
-use Rattle.zx_calculus.specs.Worked.{plain}
+use Rattle.zx_calculus.specs.Graph.{joined, plain}
 use Rattle.zx_calculus.proofs.Ids.{not-true as off_by}
 use Rattle.circuit_laws.proofs.Places.{output_there, member-places}
 use Rattle.zx_extract.proofs.Places.{one_vertex}

@@ -1,7 +1,7 @@
 -- One more output.
 use Rattle.std.proofs.Common.{◌≡◌, ◌∙◌, ℕ, ◌+◌, ◌≤◌, sym, subst, arith}
 use Rattle.std.specs.List.{AllZip}
-use Rattle.zx_calculus.specs.Worked.{plain}
+use Rattle.zx_calculus.specs.Graph.{plain}
 use Rattle.circuit_laws.specs.Peeling.{HasPlainOutput}
 use Rattle.circuit_laws.proofs.Places.{member-places}
 use Rattle.zx_extract.proofs.Legs.{legs_below, legs_more, legs_skip, legs_all}

@@ -1,6 +1,6 @@
 -- The row that is taken.
 use Rattle.std.proofs.lemmas.Result.{on_ok_weaker}
-use Rattle.zx_calculus.specs.Worked.{plain}
+use Rattle.zx_calculus.specs.Graph.{plain}
 use Rattle.circuit_laws.proofs.Places.{member-places}
 use Rattle.zx_extract.specs.Internal.Frontiers.{remainder_of}
 use Rattle.zx_extract.proofs.BesideRow.{row_replaced}

@@ -3,7 +3,7 @@ use Rattle.std.proofs.Common.{◌≤◌, ◌∙◌, ℕ, ◌*◌, pos, sym, subs
 use Rattle.zx_model.specs.Scalar.{IsScaled, IsWithin}
 use Rattle.zx_calculus.specs.Counts.{not_XY}
 use Rattle.open_graph.specs.OpenGraph.{most_vertices_in_memory}
-use Rattle.zx_calculus.specs.Sum.{sum}
+use Rattle.zx_calculus.specs.Sum.{graph_sum}
 use Rattle.zx_gates.specs.Circuit.{IsOnQubits, most_qubits}
 use Rattle.zx_gates.specs.Maps.{amp}
 use Rattle.zx_extract.specs.Internal.Extracted.{IsExtracted}
@@ -35,8 +35,8 @@ returns c =
     record {
       kept = record {
         qubits = c.in_ok-gates.ensures.qubits ∙ c.in_ok-doublings.ensures.qubits;
-        scaled = subst (λ s. IsScaled n n (sum g) s (amp c.in_ok-gates.gates.gates)) (sym c.doubled.ensures)
-            (subst (λ m. IsScaled m n (sum g) (record { root2 = pos (2 * c.in_ok-doublings.doublings); turn = 0 }) (amp c.in_ok-gates.gates.gates)) c.requires.ends
+        scaled = subst (λ s. IsScaled n n (graph_sum g) s (amp c.in_ok-gates.gates.gates)) (sym c.doubled.ensures)
+            (subst (λ m. IsScaled m n (graph_sum g) (record { root2 = pos (2 * c.in_ok-doublings.doublings); turn = 0 }) (amp c.in_ok-gates.gates.gates)) c.requires.ends
             (exact_scaled c.in_ok-doublings.doublings g c.in_ok-gates.gates.gates made.exact));
         small = subst (IsWithin (2 * not_XY g)) (sym c.doubled.ensures) (mul-le-mul_left 2 made.exact.few);
         odd = made.odd;

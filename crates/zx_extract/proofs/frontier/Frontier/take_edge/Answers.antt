@@ -1,6 +1,6 @@
 -- The edge is toggled, or isn't there.
 use Rattle.std.proofs.Common.{◌∙◌, sym}
-use Rattle.zx_calculus.specs.Worked.{plain}
+use Rattle.zx_calculus.specs.Graph.{plain}
 use Rattle.circuit_laws.proofs.Places.{member-places}
 use Rattle.zx_extract.proofs.Calls.{unjoined_already, ends_differ, edge_taken}
 use Rattle.zx_extract.proofs.frontier.Frontier.take_edge.Goals as goal

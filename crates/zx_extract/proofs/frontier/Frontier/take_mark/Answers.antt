@@ -2,8 +2,7 @@
 use Rattle.std.proofs.Common.{◌≡◌, ◌∙◌, sym, ap, ap₂, set, remove, arith}
 use Rattle.std.specs.Prelude.{slice_get}
 use Rattle.zx_model.specs.Bits.{member}
-use Rattle.zx_calculus.specs.Graph.{End, ids, plane_of, end_vertices}
-use Rattle.zx_calculus.specs.Worked.{plain}
+use Rattle.zx_calculus.specs.Graph.{End, ids, plane_of, end_vertices, plain}
 use Rattle.zx_calculus.proofs.Ids.{not-true}
 use Rattle.circuit_laws.proofs.Places.{output_there, output_plane}
 use Rattle.zx_extract.specs.Internal.Frontiers.{remainder_of}

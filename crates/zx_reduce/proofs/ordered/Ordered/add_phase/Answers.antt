@@ -1,7 +1,6 @@
 -- The gate that the new weight is.
 use Rattle.std.proofs.Common.{◌≡◌, ◌∙◌, ap, subst, sym}
-use Rattle.zx_calculus.specs.Graph.{Kind, WellFormed}
-use Rattle.zx_calculus.specs.Worked.{plain}
+use Rattle.zx_calculus.specs.Graph.{Kind, WellFormed, plain}
 use Rattle.circuit_laws.proofs.Places.{output_plane}
 use Rattle.zx_calculus.specs.Turns.{in_plane}
 use Rattle.open_graph.specs.Planes.{plane_named}
@@ -15,19 +14,19 @@ use Rattle.zx_reduce.proofs.GatesOrdered.{there_inside, gate_inside}
 use Rattle.zx_reduce.proofs.ordered.Ordered.add_phase.Goals as goal
 
 pub weight-plane-requires : goal.weight-plane-requires
-weight-plane-requires c = there_inside _ c.args.self.now c.self.view_is c.args.q c.present-here.result c.present-here.ensures.valid c.present-here.ensures.value
+weight-plane-requires c = there_inside _ c.args.self.now c.self.view_is c.args.q c.last_spider-here.result c.last_spider-here.ensures.valid c.last_spider-here.ensures.value
 
 pub set_weight-requires-clause-live : goal.set_weight-requires-clause-live
 set_weight-requires-clause-live c =
-    there_inside _ c.args.self.now c.self.view_is c.args.q c.present-here.result c.present-here.ensures.valid c.present-here.ensures.value
+    there_inside _ c.args.self.now c.self.view_is c.args.q c.last_spider-here.result c.last_spider-here.ensures.valid c.last_spider-here.ensures.value
 
 pub set_weight-requires-clause-plane : goal.set_weight-requires-clause-plane
 set_weight-requires-clause-plane c =
     let back = sym c.self.view_is in
     λ end. ap (λ (k : Kind). k.plane) c.weight-plane.ensures.value
-    ∙ output_plane c.self.inside.graph.graph c.args.q (plain c.present-here.result)
-    (subst (λ (o : Ordered). WellFormed o.graph) back c.present-here.ensures.valid)
-    (subst (λ (o : Ordered). HasPlainOutput o.graph c.args.q c.present-here.result) back c.present-here.ensures.value)
+    ∙ output_plane c.self.inside.graph.graph c.args.q (plain c.last_spider-here.result)
+    (subst (λ (o : Ordered). WellFormed o.graph) back c.last_spider-here.ensures.valid)
+    (subst (λ (o : Ordered). HasPlainOutput o.graph c.args.q c.last_spider-here.result) back c.last_spider-here.ensures.value)
 
 pub returns-clause-gate : goal.returns-clause-gate
 returns-clause-gate c =
@@ -35,9 +34,9 @@ returns-clause-gate c =
     let back = sym c.self.view_is in
     subst (λ (o : Ordered). c.set_weight.new.self.graph ≡ placed 0 o.graph (Phase c.args.q c.args.phase)) c.self.view_is
     (phase_is g c.args.q c.args.phase c.set_weight.new.self.graph
-    (phase_peel g c.args.q c.present-here.result c.args.phase c.weight-plane.result.1 c.add.result (plane_named c.weight-plane.result.0) _
-    (subst (λ (o : Ordered). WellFormed o.graph) back c.present-here.ensures.valid)
-    (subst (λ (o : Ordered). HasPlainOutput o.graph c.args.q c.present-here.result) back c.present-here.ensures.value)
+    (phase_peel g c.args.q c.last_spider-here.result c.args.phase c.weight-plane.result.1 c.add.result (plane_named c.weight-plane.result.0) _
+    (subst (λ (o : Ordered). WellFormed o.graph) back c.last_spider-here.ensures.valid)
+    (subst (λ (o : Ordered). HasPlainOutput o.graph c.args.q c.last_spider-here.result) back c.last_spider-here.ensures.value)
     c.weight-plane.ensures.value (ap (in_plane (plane_named c.weight-plane.result.0)) c.add.ensures) c.set_weight.ensures.ok))
 
 pub returns-clause-ordered : goal.returns-clause-ordered

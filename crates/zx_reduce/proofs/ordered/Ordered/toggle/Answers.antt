@@ -13,15 +13,15 @@ use Rattle.zx_reduce.proofs.ordered.Ordered.toggle.Goals as goal
 
 pub toggle_edge-requires-clause-u_live : goal.toggle_edge-requires-clause-u_live
 toggle_edge-requires-clause-u_live c =
-    there_inside _ c.args.self.now c.self.view_is c.args.p c.present-first.result c.present-first.ensures.valid c.present-first.ensures.value
+    there_inside _ c.args.self.now c.self.view_is c.args.p c.last_spider-first.result c.last_spider-first.ensures.valid c.last_spider-first.ensures.value
 
 pub toggle_edge-requires-clause-v_live : goal.toggle_edge-requires-clause-v_live
 toggle_edge-requires-clause-v_live c =
-    there_inside _ c.args.self.now c.self.view_is c.args.q c.present-second.result c.present-second.ensures.valid c.present-second.ensures.value
+    there_inside _ c.args.self.now c.self.view_is c.args.q c.last_spider-second.result c.last_spider-second.ensures.valid c.last_spider-second.ensures.value
 
 pub toggle_edge-requires-clause-different : goal.toggle_edge-requires-clause-different
 toggle_edge-requires-clause-different c =
-    wires_apart c.args.self.now.graph c.args.p c.args.q c.present-first.result c.present-second.result c.present-first.ensures.valid c.present-first.ensures.value c.present-second.ensures.value c.requires.apart
+    wires_apart c.args.self.now.graph c.args.p c.args.q c.last_spider-first.result c.last_spider-second.result c.last_spider-first.ensures.valid c.last_spider-first.ensures.value c.last_spider-second.ensures.value c.requires.apart
 
 pub returns-clause-gate : goal.returns-clause-gate
 returns-clause-gate c =
@@ -30,10 +30,10 @@ returns-clause-gate c =
     on_ok_weaker c.toggle_edge.result (λ toggled.
     subst (λ (o : Ordered). c.toggle_edge.new.self.graph ≡ placed 0 o.graph (Cz c.args.p c.args.q)) c.self.view_is
     (toggle_is g c.args.p c.args.q c.toggle_edge.new.self.graph c.toggle_edge.ensures.valid
-    (toggle_peel g c.args.p c.args.q c.present-first.result c.present-second.result c.toggle_edge.new.self.graph
-    (subst (λ (o : Ordered). WellFormed o.graph) back c.present-first.ensures.valid)
-    (subst (λ (o : Ordered). HasPlainOutput o.graph c.args.p c.present-first.result) back c.present-first.ensures.value)
-    (subst (λ (o : Ordered). HasPlainOutput o.graph c.args.q c.present-second.result) back c.present-second.ensures.value) c.requires.apart toggled)))
+    (toggle_peel g c.args.p c.args.q c.last_spider-first.result c.last_spider-second.result c.toggle_edge.new.self.graph
+    (subst (λ (o : Ordered). WellFormed o.graph) back c.last_spider-first.ensures.valid)
+    (subst (λ (o : Ordered). HasPlainOutput o.graph c.args.p c.last_spider-first.result) back c.last_spider-first.ensures.value)
+    (subst (λ (o : Ordered). HasPlainOutput o.graph c.args.q c.last_spider-second.result) back c.last_spider-second.ensures.value) c.requires.apart toggled)))
     c.toggle_edge.ensures.ok
 
 pub returns-clause-ordered : goal.returns-clause-ordered

@@ -10,5 +10,5 @@ present-v-requires-clause-plain c = plain_inside _ c.args.self.now c.self.view_i
 pub returns : goal.returns
 returns c =
     on_ok_weaker c.add_to.result
-    (note_inside _ c.args.self.now c.self.view_is c.args.gate c.args.q c.args.phase c.present-v.result c.add_to.new.phases c.present-v.ensures.value)
+    (note_inside _ c.args.self.now c.self.view_is c.args.gate c.args.q c.args.phase c.last_spider-v.result c.add_to.new.phases c.last_spider-v.ensures.value)
     c.add_to.ensures

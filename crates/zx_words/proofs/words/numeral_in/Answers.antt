@@ -2,9 +2,9 @@
 use Rattle.std.proofs.Common.{◌≡◌, ◌<◌, ◌^◌, ◌∙◌, Ok, true, bytes_eq, sym, rules, arith}
 use Rattle.std.proofs.lemmas.Slice.Eq.{bytes_eq-Decides}
 use Rattle.zx_words.proofs.WordLemmas.{number_passes, unparsed, otherwise}
-use Rattle.zx_words.proofs.words.number_in.Goals as goal
-use Rattle.zx_words.proofs.words.number_in.Goals.{else-number-most-via-then-number-most+else-eq}
-use Rattle.zx_words.proofs.words.number_in.Goals.{else-number-most-via-else-number-most}
+use Rattle.zx_words.proofs.words.numeral_in.Goals as goal
+use Rattle.zx_words.proofs.words.numeral_in.Goals.{else-number-most-via-then-number-most+else-eq}
+use Rattle.zx_words.proofs.words.numeral_in.Goals.{else-number-most-via-else-number-most}
 
 pub returns-in-Err-clause-value : goal.returns-in-Err-clause-value
 returns-in-Err-clause-value c =

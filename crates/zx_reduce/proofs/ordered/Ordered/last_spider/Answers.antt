@@ -5,7 +5,7 @@ use Rattle.zx_calculus.specs.Graph.{end_vertices}
 use Rattle.circuit_laws.specs.Peeling.{are_plain, HasPlainOutput}
 use Rattle.circuit_laws.proofs.Places.{plain_at}
 use Rattle.zx_reduce.specs.Internal.Ordering.{Ordered}
-use Rattle.zx_reduce.proofs.ordered.Ordered.present.Goals as goal
+use Rattle.zx_reduce.proofs.ordered.Ordered.last_spider.Goals as goal
 
 pub returns-clause-value : goal.returns-clause-value
 returns-clause-value c =

@@ -3,7 +3,7 @@ use Rattle.std.proofs.Common.{◌∙◌, ap, sym}
 use Rattle.std.specs.Prelude.{slice_get}
 use Rattle.zx_calculus.specs.Graph.{end_vertices}
 use Rattle.circuit_laws.proofs.Places.{plain_at}
-use Rattle.circuit_graph.proofs.wires.Wires.present.Goals as goal
+use Rattle.circuit_graph.proofs.wires.Wires.last_spider.Goals as goal
 
 pub returns : goal.returns
 returns c =
