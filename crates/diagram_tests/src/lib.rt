@@ -1,4 +1,5 @@
-//! Tests of diagrams and their graph-like forms. There is no running code.
+//! Tests of what lies between diagrams, graphs and circuits: diagrams with their graph-like forms and circuits, circuits made
+//! into graphs, and what extraction makes of graphs by itself. There is no running code.
 #![tactic(auto)]
 
 #[cfg(test)]

@@ -1,7 +1,9 @@
 mod circuits;
 mod cleanup;
 mod generation;
+mod inserting;
 mod lowering;
+mod parities;
 mod reports;
 mod scalars;
 mod texts;

@@ -142,9 +142,12 @@ module _ (n : ℕ) (gates : List Gate) (on : All (IsOnQubits n) gates) where
   )
   gate_renamed to back g h new other (Phase q k) r w fresh named basic here =
       (to, back, phase_renamed to back g h r.well_formed w named new other q k (subst (λ m. IsOnQubits m (Phase q k)) (sym r.outputs) here).0, λ v there. refl)
-  gate_renamed to back g h new other (Cz p q) r w fresh named basic here =
-      (to, back, edge_renamed to back g h r.well_formed w named new other p q (fresh_above new g r.below) fresh (subst (λ m. IsOnQubits m (Cz p q)) (sym r.outputs) here),
-      λ v there. refl)
+  gate_renamed to back g h new other (Cz p q) r w fresh named basic here = (
+    to,
+    back,
+    edge_renamed to back g h r.well_formed w named new other p q (fresh_above new g r.below) fresh (subst (λ m. IsOnQubits m (Cz p q)) (sym r.outputs) here),
+    λ v there. refl,
+  )
   gate_renamed to back g h new other (Cx p q) r w fresh named basic here = absurd basic
   gate_renamed to back g h new other (Not q) r w fresh named basic here = absurd basic
 

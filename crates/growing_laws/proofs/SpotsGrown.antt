@@ -18,7 +18,7 @@ use Rattle.teleport_laws.specs.Shifts.{negates, into_of}
 use Rattle.teleport_laws.specs.Spots.{Holder, At, Deleted, Dropped, Spot, holder_after, spot_after, moved, carried}
 use Rattle.growing_laws.specs.Growing.{placed, SplitNothing}
 use Rattle.growing_laws.specs.Renaming.{renamed_step, IsRenamed}
-use Rattle.growing_laws.specs.Holding.{named_holder, named_spot, LivesIn}
+use Rattle.growing_laws.specs.Internal.Holding.{named_holder, named_spot, LivesIn}
 use Rattle.growing_laws.proofs.Placing.{IsPlaced, placed_is}
 use Rattle.growing_laws.proofs.Renamed.{eqb-named, plane as plane-named, phase as phase-named, into-named}
 use Rattle.growing_laws.proofs.RunsGrown.{run_placed}
@@ -55,8 +55,11 @@ module _ (new : ℕ) (gate : Gate) (g k : Graph) (w : WellFormed g) (fresh : mem
       (row new gate g k w fresh on P u c.there c.interior v) (row new gate g k w fresh on P x c.there_too c.interior_too v)
       ∙ by_test (member v (ids g.vertices))
       (λ t. ap (λ p. cond (eqb v u || eqb v x) (is_XZ p) ((joined g.edges u v && joined g.edges x v) && not (is_XY p))) (plane new gate g k w fresh on P v t))
-      (λ f. rw (ne_eqb v u (λ e. true≢false (sym c.there ∙ ap (λ y. member y (ids g.vertices)) (sym e) ∙ f)),
-      ne_eqb v x (λ e. true≢false (sym c.there_too ∙ ap (λ y. member y (ids g.vertices)) (sym e) ∙ f)), absent_right g w u v f) refl)
+      (λ f. rw (
+        ne_eqb v u (λ e. true≢false (sym c.there ∙ ap (λ y. member y (ids g.vertices)) (sym e) ∙ f)),
+        ne_eqb v x (λ e. true≢false (sym c.there_too ∙ ap (λ y. member y (ids g.vertices)) (sym e) ∙ f)),
+        absent_right g w u v f,
+      ) refl)
   negates_placed (SplitInput b) h none c v = absurd (true≢false none)
   negates_placed (SplitOutput b) h none c v = absurd (true≢false none)
   negates_placed (DropLone u) h none c v = refl

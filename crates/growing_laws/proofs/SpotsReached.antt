@@ -24,7 +24,7 @@ use Rattle.teleport_laws.proofs.Carrying.{AreBelow}
 use Rattle.teleport_laws.proofs.Forwards.{teleported-alike, later_spot, one_later, moved-later, length-longer}
 use Rattle.growing_laws.specs.Growing.{placed, ids_after, SplitNothing, IsBasic}
 use Rattle.growing_laws.specs.Growth.{Reaches, ComesFrom, graph_of_gates}
-use Rattle.growing_laws.specs.Holding.{named_holder, named_spot, LivesIn, run_spot, reached_spot}
+use Rattle.growing_laws.specs.Internal.Holding.{named_holder, named_spot, LivesIn, run_spot, reached_spot}
 use Rattle.growing_laws.specs.Renaming.{renamed_ends, renamed_step, with_name, IsRenamed}
 use Rattle.growing_laws.proofs.GrownGraphs.{base_growing, reached, longer, gate_renamed}
 use Rattle.growing_laws.proofs.Parts.{spot_there}

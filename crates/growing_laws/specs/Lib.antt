@@ -1,4 +1,4 @@
 pub mod Growing
 pub mod Renaming
 pub mod Growth
-pub mod Holding
+pub mod Internal

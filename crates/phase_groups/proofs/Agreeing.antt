@@ -8,12 +8,13 @@ use Rattle.zx_calculus.proofs.Booleans.{xor-false, or-true}
 use Rattle.zx_calculus.proofs.Ids.{by_test, by_equal, eqb-self, eqb_comm, member-append}
 use Rattle.teleport_laws.specs.Shifts.{signed, negates, into_of}
 use Rattle.teleport_laws.specs.Spots.{Holder, At, Deleted, Dropped, Spot, spot_at, holder_after, moved}
-use Rattle.teleport_laws.specs.Groups.{same_holder, is_dropped, held, first_of, teleported, AreRising}
+use Rattle.teleport_laws.specs.Groups.{same_holder, is_dropped, held, first_of, teleported}
+use Rattle.teleport_laws.specs.Internal.Rising.{AreRising}
 use Rattle.teleport_laws.proofs.Carrying.{AreBelow, step_apart, held-below, none_plus, signed-signed, signed-sum}
 use Rattle.teleport_laws.proofs.Grouping.{same_holder-true, same_holder-self}
 use Rattle.teleport_laws.proofs.Forwards.{IsAlike, IsMerged, first-alike, held-merged, first-merged, teleported-alike, teleported-dropped, first-stays, first-new, teleported-elsewhere, teleported-joined, teleported-alone, later_spot}
 use Rattle.phase_groups.specs.Groups.{Phases, group_of, phase_of_gate, with_gate, turned_group, earlier_of, later_of, joined_groups, HavePhase, IsAdded, IsLost, ArePutTogether, ArePhasesJoined, IsFused, IsFollowed}
-use Rattle.phase_groups.specs.Agreement.{IsFirstAt, IsGroupAt, Agrees}
+use Rattle.phase_groups.specs.Internal.Agreement.{IsFirstAt, IsGroupAt, Agrees}
 use Rattle.phase_groups.specs.declared.groups.Group.{Group}
 
 same_holder-sym : (h k : Holder) → same_holder h k ≡ same_holder k h

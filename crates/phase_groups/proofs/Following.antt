@@ -8,7 +8,7 @@ use Rattle.zx_calculus.specs.Steps.{Step, LocalComplement, Delete, Pivot, SplitI
 use Rattle.teleport_laws.specs.Shifts.{signed, negates, into_of}
 use Rattle.phase_groups.specs.Groups.{Phases, group_of, turned_group, earlier_of, later_of, joined_groups, HavePhase, IsLost, ArePutTogether, ArePhasesJoined, IsFused, IsFollowed}
 use Rattle.phase_groups.specs.Noting.{stands_odd, parting_by, IsNoted}
-use Rattle.phase_groups.specs.Taking.{HasParted, IsTaken}
+use Rattle.phase_groups.specs.Internal.Taking.{HasParted, IsTaken}
 use Rattle.phase_groups.specs.declared.groups.Group.{Group}
 use Rattle.phase_groups.specs.declared.notes.Note.{Note}
 use Rattle.phase_groups.proofs.Agreeing.{turned_group-false}

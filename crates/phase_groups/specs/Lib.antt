@@ -1,4 +1,3 @@
 pub mod Noting
 pub mod Groups
-pub mod Taking
-pub mod Agreement
+pub mod Internal

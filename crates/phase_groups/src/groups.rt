@@ -7,7 +7,7 @@ ghost use Rattle.phase_groups.specs.Groups.{Phases as Seen, group_of, phase_of_g
 ghost use Rattle.phase_groups.specs.Groups.{AreNone, HavePhase, IsAdded, IsLost, ArePutTogether, ArePhasesJoined};
 ghost use Rattle.phase_groups.specs.Groups.{IsFused, IsFollowed};
 ghost use Rattle.phase_groups.specs.Noting.{stands_odd};
-ghost use Rattle.phase_groups.specs.Taking.{IsEmptied, IsTaken};
+ghost use Rattle.phase_groups.specs.Internal.Taking.{IsEmptied, IsTaken};
 ghost use Rattle.teleport_laws.specs.Shifts.{signed};
 ghost use Rattle.zx_model.specs.Phase.{sum_of_phases};
 

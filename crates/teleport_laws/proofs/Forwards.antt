@@ -7,7 +7,8 @@ use Rattle.zx_calculus.specs.Graph.{Graph}
 use Rattle.zx_calculus.specs.Steps.{Step, LocalComplement, Delete, Pivot, SplitInput, SplitOutput, DropLone, FuseInto, FuseTwin, IsRun}
 use Rattle.teleport_laws.specs.Shifts.{signed, negates}
 use Rattle.teleport_laws.specs.Spots.{Holder, At, Deleted, Dropped, Spot, holder_after, spot_after, moved, carried}
-use Rattle.teleport_laws.specs.Groups.{same_holder, is_dropped, part, held, first_of, teleported, AreRising}
+use Rattle.teleport_laws.specs.Groups.{same_holder, is_dropped, part, held, first_of, teleported}
+use Rattle.teleport_laws.specs.Internal.Rising.{AreRising}
 use Rattle.teleport_laws.proofs.Carrying.{AreBelow, signed-below, signed-none, signed-sum, signed-signed, zero_low, part-below, held-below, none_plus}
 use Rattle.teleport_laws.proofs.Grouping.{same_holder-self}
 use Rattle.teleport_laws.proofs.Shifting.{plus_none, four_phases}

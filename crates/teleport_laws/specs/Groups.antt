@@ -37,11 +37,6 @@ abbrev pub first_of : (ℕ → Spot) → List ℕ → Holder → ℕ
 first_of spot [] holder = 0
 first_of spot (i ∷ is) holder = if same_holder (spot i).holder holder then i else first_of spot is holder
 
--- gates by rising numbers
-abbrev pub AreRising : List ℕ → Type 0
-AreRising [] = Unit {0}
-AreRising (i ∷ is) = ((j : ℕ) → member j is ≡ true → i < j) × AreRising is
-
 -- the new phase of a gate: the first gate of a group gets the sum that the holder has, with its own sign
 abbrev pub teleported : (ℕ → ℕ) → (ℕ → Spot) → List ℕ → ℕ → ℕ
 teleported phase spot gates i =

@@ -1,3 +1,4 @@
 pub mod Shifts
 pub mod Spots
 pub mod Groups
+pub mod Internal

@@ -8,8 +8,8 @@ use Rattle.zx_model.specs.Phase.{turn}
 use Rattle.zx_gates.specs.Circuit.{IsGateOn, IsCircuit, Circuit}
 use Rattle.zx_gates.specs.declared.gate.Gate.{Gate}
 use Rattle.piece_laws.specs.Replacement.{AreScaled}
-use Rattle.parity_laws.specs.BasisStates.{moved_by, turned_by, is_without_h, is_by_eighths, AgreeAt, AgreeUpTo}
-use Rattle.parity_laws.proofs.Agreeing.{eighths_agree, any_agree}
+use Rattle.zx_identities.specs.BasisStates.{moved_by, turned_by, is_without_h, is_by_eighths, AgreeAt, AgreeUpTo}
+use Rattle.zx_identities.proofs.Agreeing.{eighths_agree, any_agree}
 use Rattle.zx_identities.specs.declared.parities.Term.{Term}
 use Rattle.zx_identities.specs.declared.packing.Group.{Group}
 use Rattle.zx_identities.specs.Internal.Parities.{phase_of, IsReading, IsUnmoved}

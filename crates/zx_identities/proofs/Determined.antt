@@ -8,7 +8,7 @@ use Rattle.std.proofs.lemmas.List.{get_or-set_same, get_or-set_other, get_or_pas
 use Rattle.std.proofs.lemmas.Nat.{xor_lt, pow_pos, pow_below}
 use Rattle.zx_model.specs.Bits.{xor, bit}
 use Rattle.zx_gates.specs.declared.gate.Gate.{Gate}
-use Rattle.parity_laws.specs.BasisStates.{moved_by}
+use Rattle.zx_identities.specs.BasisStates.{moved_by}
 use Rattle.zx_identities.specs.declared.parities.Term.{Term}
 use Rattle.zx_identities.specs.Internal.Parities.{lowest, picked, value, state, units_from, AreBelow, IsRead}
 use Rattle.zx_identities.proofs.ParityLemmas.{value-unit, state-bit, units_known, unit-at, length-units}

@@ -10,8 +10,8 @@ use Rattle.zx_gates.specs.Maps.{amp}
 use Rattle.zx_gates.specs.declared.gate.Gate.{Gate}
 use Rattle.zx_gates.specs.declared.scaled_circuit.ScaledCircuit.{ScaledCircuit}
 use Rattle.piece_laws.specs.Replacement.{AreScaled}
-use Rattle.zx_inverse.specs.Inverse.{inverse_of, undone_scalar}
-use Rattle.parity_laws.proofs.PuttingIn.{put_in}
+use Rattle.zx_identities.specs.Inverse.{inverse_of, undone_scalar}
+use Rattle.zx_identities.proofs.PuttingIn.{put_in}
 use Rattle.zx_identities.specs.declared.inserting.Insertion.{Insertion}
 use Rattle.zx_identities.specs.Insertions.{most_root2_of_insertions}
 use Rattle.zx_identities.specs.Internal.Inserting.{Fits, inserted, IsRescaled}

@@ -1,3 +1,12 @@
+pub mod Undoing
+pub mod OneMap
+pub mod Differences
+pub mod Affine
+pub mod LowWeights
+pub mod Moving
+pub mod Agreeing
+pub mod PuttingIn
+pub mod WorkedPolynomials
 pub mod ParityLemmas
 pub mod PackingLemmas
 pub mod Walks

@@ -12,8 +12,8 @@ use Rattle.zx_model.proofs.BitLemmas.{expand, sum_of_bits}
 use Rattle.zx_gates.specs.Circuit.{IsGateOn}
 use Rattle.zx_gates.specs.declared.gate.Gate.{Gate}
 use Rattle.zx_gates.specs.declared.gate.Gate.TheVariants.{Cx, Not}
-use Rattle.parity_laws.specs.BasisStates.{moved, turned, moved_by, turned_by}
-use Rattle.parity_laws.proofs.Agreeing.{turned_below}
+use Rattle.zx_identities.specs.BasisStates.{moved, turned, moved_by, turned_by}
+use Rattle.zx_identities.proofs.Agreeing.{turned_below}
 use Rattle.zx_identities.specs.declared.parities.Term.{Term}
 use Rattle.zx_identities.specs.Internal.Parities.{lowest, picked, value, state, term_phase, phase_of, controlled_phase, units_from, IsReading, IsRead}
 

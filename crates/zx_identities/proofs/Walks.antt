@@ -4,8 +4,8 @@ use Rattle.std.specs.Prelude.{◌↔◌, nat_eq, bit_xor}
 use Rattle.std.proofs.lemmas.Bool.{eq-eqb, eqb-true}
 use lib.Bits.{xor_self, xor_zero_r, xor_assoc}
 use Rattle.zx_model.specs.Phase.{turn}
-use Rattle.parity_laws.specs.Polynomials.{weight}
-use Rattle.parity_laws.proofs.Differences.{weight-set, weight-unset}
+use Rattle.zx_identities.specs.Polynomials.{weight}
+use Rattle.zx_identities.proofs.Differences.{weight-set, weight-unset}
 use Rattle.zx_identities.specs.declared.packing.Group.{Group}
 use Rattle.zx_identities.specs.Internal.Packing.{counted, reached, total, here, flipped, AreZero}
 

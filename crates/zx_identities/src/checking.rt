@@ -4,7 +4,7 @@ ghost use Rattle.std.specs.Prelude.{◌≡◌, ◌≤◌, [], Bool, List, length
 ghost use Rattle.std.specs.List.{list_all};
 ghost use Rattle.zx_model.specs.Scalar.{one_scalar};
 ghost use Rattle.piece_laws.specs.Replacement.{AreScaled};
-ghost use Rattle.parity_laws.specs.BasisStates.{is_without_h, is_by_eighths, AgreeAt};
+ghost use Rattle.zx_identities.specs.BasisStates.{is_without_h, is_by_eighths, AgreeAt};
 
 use crate::packing::grouped;
 use crate::parities::{MOST_QUBITS, read};

@@ -7,14 +7,14 @@ ghost use Rattle.zx_gates.specs.Circuit.{IsGateOn, gate_limit, gate_odd_phases};
 ghost use Rattle.zx_gates.specs.Maps.{amp};
 ghost use Rattle.zx_gates.specs.Passes.{Implements};
 ghost use Rattle.piece_laws.specs.Replacement.{AreScaled};
-ghost use Rattle.zx_inverse.specs.Inverse.{undone_scalar};
+ghost use Rattle.zx_identities.specs.Inverse.{undone_scalar};
 ghost use Rattle.zx_identities.specs.Insertions.{most_root2_of_insertions};
 ghost use Rattle.zx_identities.specs.Internal.Inserting.{Fits, inserted, IsRescaled};
 
 use crate::checking::is_identity;
+use crate::inversion::{push_inverse, undone_scalar};
 use std::alloc::{AllocError, Global};
 use zx_gates::{Gate, GateList, ScaledCircuit};
-use zx_inverse::{push_inverse, undone_scalar};
 use zx_model::Scalar;
 
 // The greatest exponent of the root of two, in size.

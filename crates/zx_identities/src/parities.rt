@@ -4,7 +4,7 @@ ghost use Rattle.std.specs.Prelude.{◌≡◌, ◌≤◌, ◌<◌, ◌+◌, ◌%
 ghost use Rattle.std.specs.List.{All};
 ghost use Rattle.zx_model.specs.Phase.{turn};
 ghost use Rattle.zx_gates.specs.Circuit.{IsGateOn};
-ghost use Rattle.parity_laws.specs.BasisStates.{moved, turned};
+ghost use Rattle.zx_identities.specs.BasisStates.{moved, turned};
 ghost use Rattle.zx_identities.specs.Internal.Parities.{state, phase_of, term_phase, controlled_phase, units_from, AreBelow, IsReading, IsUnmoved};
 
 use std::alloc::{AllocError, Global};

@@ -7,7 +7,7 @@ ghost use Rattle.zx_extract.specs.Simplified.{gate_bound};
 ghost use Rattle.zx_optimise.specs.Optimising.{bound_of, most_optimised_root2, IsBest, IsCleaned, CostsNoMoreThanRead, CostsNoMoreThanTeleported, IsPlain, Optimises};
 ghost use Rattle.zx_optimise.specs.Internal.Candidates.{is_dearer, most_whole_root2, IsCandidate, CostsNoMoreThan, IsTakenOver, IsTeleportedCleanup, Offers};
 
-use fewer_phases::with_fewer_odd_phases;
+use crate::finishing::with_fewer_odd_phases;
 use std::alloc::{AllocError, Global};
 use zx_gates::{Counts, GateList, Qubit, ScaledCircuit, counts};
 use zx_peephole::tidy;

@@ -22,7 +22,7 @@ use Rattle.teleport_circuits.proofs.Teleporting.{phase_at-low}
 use Rattle.phase_groups.specs.Groups.{Phases, AreNone, IsAdded}
 use Rattle.phase_groups.proofs.Agreeing.{agrees-none, agrees-spots, agrees-gate, agrees-step, added-count, followed-count}
 use Rattle.growing_laws.specs.Growth.{Reaches, graph_of_gates}
-use Rattle.growing_laws.specs.Holding.{LivesIn, run_spot, reached_spot}
+use Rattle.growing_laws.specs.Internal.Holding.{LivesIn, run_spot, reached_spot}
 use Rattle.growing_laws.proofs.SpotsReached.{ReachesOn, ReachesBehind, IsAtOutput}
 use Rattle.zx_reduce.specs.Internal.Growing.{Held, held_of, MayBeHeld}
 use Rattle.zx_reduce.specs.Internal.Progress.{AreFollowed, AreAdded}

@@ -110,7 +110,7 @@ impl Progress {
         requires on_qubits { q < length self.old.ordered.graph.outputs }
         ensures { OnOk result (Notes gate q phase self.old self.new) }
     {
-        let v = self.ordered.present(q);
+        let v = self.ordered.last_spider(q);
         add_to(&mut self.phases, gate, v, phase)
     }
 

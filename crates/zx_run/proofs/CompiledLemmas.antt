@@ -12,9 +12,9 @@ use Rattle.zx_gates.specs.ElementaryMaps.{amp_elementary}
 use Rattle.zx_gates.specs.Maps.{amp}
 use Rattle.zx_peephole.specs.Tidy.{IsTidy}
 use Rattle.zx_extract.specs.Simplified.{gate_bound, IsThroughReduced}
-use Rattle.zx_compile.specs.declared.compiling.Compiled.{Compiled}
-use Rattle.zx_compile.specs.declared.compiling.Compiled.TheVariants as compiled
-use Rattle.zx_compile.specs.Compiled.{HasForm, IfCircuit}
+use Rattle.zx_simplify.specs.declared.compiling.Compiled.{Compiled}
+use Rattle.zx_simplify.specs.declared.compiling.Compiled.TheVariants as compiled
+use Rattle.zx_simplify.specs.Compiled.{HasForm, IfCircuit}
 use Rattle.qasm_scope.specs.Meaning.{Means}
 use Rattle.qasm_writer.specs.Elements.{elements_of}
 use Rattle.qasm_writer.specs.Measuring.{AreBehind}

@@ -11,7 +11,7 @@ use Rattle.zx_gates.specs.Elementary.{elementary_odd_phases}
 use Rattle.zx_gates.specs.ElementaryMaps.{amp_elementary}
 use Rattle.zx_peephole.specs.Tidy.{IsTidy}
 use Rattle.zx_extract.specs.Simplified.{gate_bound, IsThroughReduced}
-use Rattle.zx_compile.specs.Compiled.{HasForm}
+use Rattle.zx_simplify.specs.Compiled.{HasForm}
 use Rattle.qasm_scope.specs.Texts.{TextMeans, program_size}
 use Rattle.qasm_writer.specs.Elements.{elements_of}
 use Rattle.qasm_writer.specs.Written.{written}

@@ -12,8 +12,8 @@ use itoa::Buffer;
 use open_graph::VertexId;
 use qasm_writer::write_text;
 use std::alloc::{AllocError, Global};
-use zx_compile::{Compiled, compile};
 use zx_diagram::Diagram;
+use zx_simplify::{Compiled, compile};
 
 /// The text of a circuit for a diagram, or where its graph-like form has no flow, no and the line of
 /// the vertices that show it.

@@ -19,11 +19,11 @@ use Rattle.zx_extract.specs.Simplified.{gate_bound}
 use Rattle.zx_simplify.specs.declared.simplifying.Simplified.{Simplified}
 use Rattle.zx_same.specs.Bare.{is_bare}
 use Rattle.zx_same.specs.Internal.Simplifying.{Simplifies}
-use Rattle.zx_inverse.specs.Inverse.{inverse_gate, inverse_of, undone_by}
+use Rattle.zx_identities.specs.Inverse.{inverse_gate, inverse_of, undone_by}
 use Rattle.zx_same.proofs.BareGraphs.{bare_identity}
-use Rattle.zx_inverse.proofs.OneMap.{one_map}
+use Rattle.zx_identities.proofs.OneMap.{one_map}
 use Rattle.zx_same.proofs.Quotients.{no_gates}
-use Rattle.zx_inverse.proofs.Undoing.{count-inverse}
+use Rattle.zx_identities.proofs.Undoing.{count-inverse}
 
 -- maps at numbers of ends that are n
 pub at_n : (n i o : ℕ) (f g : List Bool → List Bool → Number) → i ≡ n → o ≡ n → Proportional i o f g → Proportional n n f g

@@ -25,10 +25,10 @@ use Rattle.piece_laws.proofs.Matrices.{proportional-acts}
 use Rattle.zx_same.specs.Bare.{is_bare, has_only_ends}
 use Rattle.zx_same.specs.Comparing.{IsLeftOfBoth}
 use Rattle.zx_same.specs.Internal.Simplifying.{Simplifies}
-use Rattle.zx_inverse.specs.Inverse.{inverse_of, undone_by}
+use Rattle.zx_identities.specs.Inverse.{inverse_of, undone_by}
 use Rattle.zx_same.proofs.Comparisons.{at_n, odd-undone}
 use Rattle.zx_same.proofs.IdentityGraphs.{all_of, identity_bare}
-use Rattle.zx_inverse.proofs.Undoing.{undone_map}
+use Rattle.zx_identities.proofs.Undoing.{undone_map}
 
 -- the test of ends, at each vertex
 pub ends_of : (g : Graph) → has_only_ends g ≡ true → (u : ℕ) → member u (ids g.vertices) ≡ true →

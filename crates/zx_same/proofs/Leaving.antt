@@ -24,7 +24,7 @@ use Rattle.growing_laws.proofs.SameButNames.{named_back}
 use Rattle.zx_extract.specs.Simplified.{gate_bound}
 use Rattle.zx_simplify.specs.Circuits.{IsSimplified}
 use Rattle.zx_simplify.proofs.Whole.{simplified_whole}
-use Rattle.zx_inverse.specs.Inverse.{undone_by}
+use Rattle.zx_identities.specs.Inverse.{undone_by}
 use Rattle.zx_same.specs.Bare.{is_bare, is_bare_vertex, is_bare_wire, has_only_ends}
 use Rattle.zx_same.specs.Comparing.{IsLeft}
 use Rattle.zx_same.specs.Internal.Simplifying.{Leaves}

@@ -8,8 +8,8 @@ use Rattle.zx_model.specs.declared.scalar.Scalar.{Scalar}
 use Rattle.zx_gates.specs.Circuit.{Circuit, IsCircuit, IsGateOn}
 use Rattle.zx_gates.specs.Maps.{amp}
 use Rattle.zx_gates.specs.declared.gate.Gate.{Gate}
-use Rattle.zx_inverse.specs.Inverse.{undone_by, undone_scalar}
-use Rattle.zx_inverse.proofs.OneMap.{one_map_scaled}
+use Rattle.zx_identities.specs.Inverse.{undone_by, undone_scalar}
+use Rattle.zx_identities.proofs.OneMap.{one_map_scaled}
 
 pub no_gates : (gates : List Gate) → nat_eq (length gates) 0 ≡ true → gates ≡ []
 no_gates [] h = refl

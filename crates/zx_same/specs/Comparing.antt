@@ -12,7 +12,7 @@ use Rattle.circuit_graph.specs.Translation.{translated}
 use Rattle.graph_rewrites.specs.declared.step.Step.{Step}
 use Rattle.zx_extract.specs.Simplified.{gate_bound}
 use Rattle.zx_same.specs.Bare.{has_only_ends, is_bare}
-use Rattle.zx_inverse.specs.Inverse.{undone_by}
+use Rattle.zx_identities.specs.Inverse.{undone_by}
 use Rattle.zx_same.specs.declared.comparing.Sameness.{Sameness}
 use Rattle.zx_same.specs.declared.comparing.Sameness.TheVariants.{Same, NotShown}
 

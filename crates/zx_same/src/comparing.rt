@@ -9,7 +9,7 @@ ghost use Rattle.graph_rewrites.specs.Steps.{step_named};
 ghost use Rattle.zx_same.specs.Bare.{is_bare};
 ghost use Rattle.zx_same.specs.Comparing.{IfSame, IfNotShown, IsLeft, IsLeftOfBoth, IsSame};
 ghost use Rattle.zx_same.specs.Internal.Simplifying.{Leaves, Simplifies};
-ghost use Rattle.zx_inverse.specs.Inverse.{undone_by};
+ghost use Rattle.zx_identities.specs.Inverse.{undone_by};
 
 use crate::bare::is_bare;
 use crate::vanishing::vanishes;
@@ -17,7 +17,7 @@ use circuit_graph::translate;
 use open_graph::OpenGraph;
 use std::alloc::{AllocError, Global};
 use zx_gates::{Gate, GateList};
-use zx_inverse::push_inverse;
+use zx_identities::push_inverse;
 use zx_moves::Trace;
 use zx_reduce::grow;
 use zx_simplify::{Simplified, extract_tidy, simplify};

@@ -7,7 +7,7 @@ ghost use Rattle.zx_gates.specs.Maps.{amp};
 use crate::comparing::undone_by;
 use std::alloc::{AllocError, Global};
 use zx_gates::GateList;
-use zx_inverse::undone_scalar;
+use zx_identities::undone_scalar;
 use zx_model::Scalar;
 use zx_simplify::simplify_circuit;
 

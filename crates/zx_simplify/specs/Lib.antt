@@ -1,3 +1,4 @@
+pub mod Compiled
 pub mod Scaling
 pub mod Extracting
 pub mod Circuits

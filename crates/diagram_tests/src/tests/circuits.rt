@@ -4,10 +4,10 @@ use super::drawings::{Drawing, drawn};
 use open_graph::VertexId;
 use std::alloc::{AllocError, Global};
 use std::process::Abort;
-use zx_compile::{Compiled, compile};
 use zx_diagram::Colour;
 use zx_gates::Gate;
 use zx_model::Sixteenth;
+use zx_simplify::{Compiled, compile};
 
 // Whether it is a circuit of these gates.
 fn has_gates(found: &Compiled, gates: &[Gate]) -> bool {

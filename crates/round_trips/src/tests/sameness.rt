@@ -5,7 +5,7 @@ use std::alloc::Global;
 use std::process::Abort;
 use std::test::Fail;
 use zx_gates::Gate;
-use zx_inverse::inverse;
+use zx_identities::inverse;
 use zx_model::{Scalar, Sixteenth};
 use zx_same::{Sameness, compare, quotient};
 

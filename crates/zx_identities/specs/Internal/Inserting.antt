@@ -6,7 +6,7 @@ use Rattle.zx_gates.specs.Circuit.{Circuit, IsCircuit}
 use Rattle.zx_gates.specs.Maps.{amp}
 use Rattle.zx_gates.specs.declared.scaled_circuit.ScaledCircuit.{ScaledCircuit}
 use Rattle.zx_gates.specs.declared.gate.Gate.{Gate}
-use Rattle.zx_inverse.specs.Inverse.{inverse_of}
+use Rattle.zx_identities.specs.Inverse.{inverse_of}
 use Rattle.zx_identities.specs.declared.inserting.Insertion.{Insertion}
 
 -- there is such a place, and the numbers of qubits are the same

@@ -4,7 +4,7 @@ use Rattle.std.specs.Prelude.{List, [], ◌∷◌, get_or, length}
 use Rattle.std.specs.Prelude.{bit_and, bit_xor, count_ones}
 use Rattle.zx_model.specs.Phase.{turn}
 use Rattle.zx_model.specs.Bits.{one_if}
-use Rattle.parity_laws.specs.Polynomials.{weight}
+use Rattle.zx_identities.specs.Polynomials.{weight}
 use Rattle.zx_identities.specs.declared.parities.Term.{Term}
 use Rattle.zx_identities.specs.declared.packing.Group.{Group}
 use Rattle.zx_identities.specs.Internal.Parities.{lowest}

@@ -4,7 +4,7 @@ use Rattle.std.specs.Prelude.{◌==◌, if◌then◌else◌, List, [], ◌∷◌
 use Rattle.zx_model.specs.Phase.{turn, half_turn}
 use Rattle.zx_model.specs.Bits.{xor}
 use Rattle.zx_gates.specs.declared.gate.Gate.{Gate}
-use Rattle.parity_laws.specs.BasisStates.{moved_by, turned_by}
+use Rattle.zx_identities.specs.BasisStates.{moved_by, turned_by}
 use Rattle.zx_identities.specs.declared.parities.Term.{Term}
 
 -- the lowest bit

@@ -11,9 +11,9 @@ use Rattle.zx_gates.specs.declared.gate.Gate.{Gate}
 use Rattle.circuit_graph.specs.Translation.{written_out}
 use Rattle.growing_laws.specs.Growing.{AreOn}
 use Rattle.growing_laws.specs.Growth.{Reaches, ComesFrom, graph_of_gates}
-use Rattle.growing_laws.specs.Holding.{LivesIn, run_spot, reached_spot}
+use Rattle.growing_laws.specs.Internal.Holding.{LivesIn, run_spot, reached_spot}
 use Rattle.phase_groups.specs.Groups.{Phases}
-use Rattle.phase_groups.specs.Agreement.{Agrees}
+use Rattle.phase_groups.specs.Internal.Agreement.{Agrees}
 use Rattle.teleport_circuits.specs.Teleporting.{gate_at, phase_at, vertex_at}
 use Rattle.zx_reduce.specs.Internal.Ordering.{IsOrdered}
 use Rattle.zx_reduce.specs.Internal.Progress.{Progress, most_tried}

@@ -20,19 +20,19 @@ returns-in_err-stop-clause-none c =
     (subst (λ (n : ℕ). IsFreeBetween c.args.work.now.gates.items c.index-gate.result.now 0 n) c.start.ensures.place
     c.in_err-stop.ensures.none))
 
-pub returns-then-is_pair-clause-found : goal.returns-then-is_pair-clause-found
-returns-then-is_pair-clause-found c =
+pub returns-then-cancels_or_merges-clause-found : goal.returns-then-cancels_or_merges-clause-found
+returns-then-cancels_or_merges-clause-found c =
     stops_as_pair c.args.work.now c.requires c.index-gate.result.now c.index-gate.ensures c.in_ok-stop.stop
     (subst (λ (n : ℕ). IsStop c.args.work.now.gates.items c.index-gate.result.now n c.in_ok-stop.stop) c.start.ensures.place
     c.in_ok-stop.ensures.found) c.index-earlier.result.now c.index-earlier.ensures
-    (sym c.cancels_or_merges.ensures ∙ c.if-is_pair.true)
+    (sym c.cancels_or_merges.ensures ∙ c.if-cancels_or_merges.true)
 
 pub returns-then-not-turns-clause-none : goal.returns-then-not-turns-clause-none
 returns-then-not-turns-clause-none c =
     stops_straight c.args.work.now c.requires c.index-gate.result.now c.index-gate.ensures c.in_ok-stop.stop
     (subst (λ (n : ℕ). IsStop c.args.work.now.gates.items c.index-gate.result.now n c.in_ok-stop.stop) c.start.ensures.place
     c.in_ok-stop.ensures.found) c.index-earlier.result.now c.index-earlier.ensures
-    (sym c.cancels_or_merges.ensures ∙ c.if-is_pair.false) (sym c.turns.ensures ∙ c.if-not-turns.true)
+    (sym c.cancels_or_merges.ensures ∙ c.if-cancels_or_merges.false) (sym c.turns.ensures ∙ c.if-not-turns.true)
 
 pub returns-in_err-first-clause-none : goal.returns-in_err-first-clause-none
 returns-in_err-first-clause-none c =
@@ -40,24 +40,24 @@ returns-in_err-first-clause-none c =
     (nothing_before c.args.work.now c.requires c.index-gate.result.now c.index-gate.ensures c.in_ok-stop.stop
     (subst (λ (n : ℕ). IsStop c.args.work.now.gates.items c.index-gate.result.now n c.in_ok-stop.stop) c.start.ensures.place
     c.in_ok-stop.ensures.found) c.index-earlier.result.now c.index-earlier.ensures
-    (sym c.cancels_or_merges.ensures ∙ c.if-is_pair.false)
+    (sym c.cancels_or_merges.ensures ∙ c.if-cancels_or_merges.false)
     (subst (λ (n : ℕ). IsFreeBetween c.args.work.now.gates.items c.index-gate.result.now 0 n) c.before-2.ensures.place
     c.in_err-first.ensures.none))
 
-pub returns-then-is_pair-2-clause-found : goal.returns-then-is_pair-2-clause-found
-returns-then-is_pair-2-clause-found c =
+pub returns-then-cancels_or_merges-2-clause-found : goal.returns-then-cancels_or_merges-2-clause-found
+returns-then-cancels_or_merges-2-clause-found c =
     stops_as_triple c.args.work.now c.requires c.index-gate.result.now c.index-gate.ensures c.in_ok-stop.stop
     (subst (λ (n : ℕ). IsStop c.args.work.now.gates.items c.index-gate.result.now n c.in_ok-stop.stop) c.start.ensures.place
     c.in_ok-stop.ensures.found) c.index-earlier.result.now c.index-earlier.ensures c.in_ok-first.first
     (subst (λ (n : ℕ). IsStop c.args.work.now.gates.items c.index-gate.result.now n c.in_ok-first.first) c.before-2.ensures.place
     c.in_ok-first.ensures.found) c.index.result.now c.index.ensures
-    (sym c.turns.ensures ∙ c.if-not-turns.false) (sym c.cancels_or_merges-2.ensures ∙ c.if-is_pair-2.true)
+    (sym c.turns.ensures ∙ c.if-not-turns.false) (sym c.cancels_or_merges-2.ensures ∙ c.if-cancels_or_merges-2.true)
 
-pub returns-else-is_pair-2-clause-none : goal.returns-else-is_pair-2-clause-none
-returns-else-is_pair-2-clause-none c =
+pub returns-else-cancels_or_merges-2-clause-none : goal.returns-else-cancels_or_merges-2-clause-none
+returns-else-cancels_or_merges-2-clause-none c =
     other_before c.args.work.now c.requires c.index-gate.result.now c.index-gate.ensures c.in_ok-stop.stop
     (subst (λ (n : ℕ). IsStop c.args.work.now.gates.items c.index-gate.result.now n c.in_ok-stop.stop) c.start.ensures.place
     c.in_ok-stop.ensures.found) c.index-earlier.result.now c.index-earlier.ensures c.in_ok-first.first
     (subst (λ (n : ℕ). IsStop c.args.work.now.gates.items c.index-gate.result.now n c.in_ok-first.first) c.before-2.ensures.place
     c.in_ok-first.ensures.found) c.index.result.now c.index.ensures
-    (sym c.cancels_or_merges.ensures ∙ c.if-is_pair.false) (sym c.cancels_or_merges-2.ensures ∙ c.if-is_pair-2.false)
+    (sym c.cancels_or_merges.ensures ∙ c.if-cancels_or_merges.false) (sym c.cancels_or_merges-2.ensures ∙ c.if-cancels_or_merges-2.false)

@@ -4,8 +4,8 @@ use Rattle.zx_reduce.proofs.Growths.{plain_inside}
 use Rattle.zx_reduce.proofs.Grouping.{note_inside}
 use Rattle.zx_reduce.proofs.progress.Progress.note.Goals as goal
 
-pub present-v-requires-clause-plain : goal.present-v-requires-clause-plain
-present-v-requires-clause-plain c = plain_inside _ c.args.self.now c.self.view_is c.requires.grown
+pub last_spider-v-requires-clause-plain : goal.last_spider-v-requires-clause-plain
+last_spider-v-requires-clause-plain c = plain_inside _ c.args.self.now c.self.view_is c.requires.grown
 
 pub returns : goal.returns
 returns c =

@@ -1,3 +1,0 @@
-mod extraction;
-mod few_rows;
-mod translations;

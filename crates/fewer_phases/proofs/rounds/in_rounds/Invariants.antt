@@ -1,7 +1,0 @@
--- What is made so far is made of the circuit.
-use Rattle.fewer_phases.specs.Bounds.{most_root2_of_fewer}
-use Rattle.fewer_phases.specs.Internal.Making.{IsMadeOf}
-use Rattle.fewer_phases.proofs.rounds.in_rounds.Given as goal
-
-abbrev pub invariant-loop-round : goal.invariant-loop-round
-invariant-loop-round l = IsMadeOf most_root2_of_fewer l.list l.current

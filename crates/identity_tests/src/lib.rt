@@ -1,6 +1,0 @@
-//! Tests of gates that are the identity. There is no running code: what is tested here stands in crates below, which
-//! aren't proved once more for it.
-#![tactic(auto)]
-
-#[cfg(test)]
-mod tests;

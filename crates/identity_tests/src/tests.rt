@@ -1,2 +1,0 @@
-mod inserting;
-mod parities;

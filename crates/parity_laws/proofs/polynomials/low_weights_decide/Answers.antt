@@ -1,9 +1,0 @@
--- The law, by its lemmas.
-use Rattle.parity_laws.proofs.Deciding.{eighths_decided, any_decided}
-use Rattle.parity_laws.proofs.polynomials.low_weights_decide.Goals as goal
-
-pub returns-clause-eighths : goal.returns-clause-eighths
-returns-clause-eighths c = eighths_decided
-
-pub returns-clause-any : goal.returns-clause-any
-returns-clause-any c = any_decided

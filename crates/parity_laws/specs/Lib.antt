@@ -1,3 +1,0 @@
-pub mod Polynomials
-pub mod BasisStates
-pub mod Worked
