@@ -86,13 +86,16 @@ await holds("a text that is too long is refused", () => {
 await holds("memory is given back after each run", () => {
     const circuit = longCircuit(10_000);
     const kept = () => {
+        // (what the first of them finds unused is given back by the second)
+        globalThis.gc();
         globalThis.gc();
         return process.memoryUsage().arrayBuffers + process.memoryUsage().external;
     };
     zxopt.optimise(circuit);
     const before = kept();
     for (let run = 0; run < 8; run++) zxopt.optimise(circuit);
-    assert.ok(kept() - before < 4_000_000, `${kept() - before} bytes are kept`);
+    const more = Math.min(kept(), kept()) - before;
+    assert.ok(more < 4_000_000, `${more} bytes are kept`);
 });
 
 if (littleFile) {
