@@ -302,7 +302,8 @@ class PageTest(unittest.TestCase):
         self.page.run()
         self.page.at("save").click()
         saved = self.folder / "two_t.opt.qasm"
-        WebDriverWait(self.page.driver, SECONDS).until(lambda _: saved.exists())
+        # (the file is there before its bytes are)
+        WebDriverWait(self.page.driver, SECONDS).until(lambda _: saved.exists() and saved.read_text())
         self.assertEqual(saved.read_text(), self.page.value("written"))
 
     def test_copying(self) -> None:
