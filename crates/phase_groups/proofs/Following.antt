@@ -7,7 +7,7 @@ use Rattle.zx_calculus.specs.Graph.{Graph}
 use Rattle.zx_calculus.specs.Steps.{Step, LocalComplement, Delete, Pivot, SplitInput, SplitOutput, DropLone, FuseInto, FuseTwin}
 use Rattle.teleport_laws.specs.Shifts.{signed, negates, into_of}
 use Rattle.phase_groups.specs.Groups.{Phases, group_of, turned_group, earlier_of, later_of, joined_groups, HavePhase, IsLost, ArePutTogether, ArePhasesJoined, IsFused, IsFollowed}
-use Rattle.phase_groups.specs.Noting.{stands_odd, parting_by, IsNoted}
+use Rattle.phase_groups.specs.Internal.Noting.{stands_odd, parting_by, IsNoted}
 use Rattle.phase_groups.specs.Internal.Taking.{HasParted, IsTaken}
 use Rattle.phase_groups.specs.declared.groups.Group.{Group}
 use Rattle.phase_groups.specs.declared.notes.Note.{Note}

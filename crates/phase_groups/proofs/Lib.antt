@@ -1,3 +1,4 @@
 pub mod Negating
 pub mod Agreeing
 pub mod Following
+pub mod FollowedRuns

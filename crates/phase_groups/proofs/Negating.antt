@@ -16,7 +16,7 @@ use Rattle.zx_calculus.proofs.Allowed.{pivot_joined}
 use Rattle.zx_calculus.proofs.Booleans.{xor-false}
 use Rattle.zx_calculus.proofs.Toggling.{member-neighbours}
 use Rattle.teleport_laws.specs.Shifts.{negates, into_of}
-use Rattle.phase_groups.specs.Noting.{stands_odd}
+use Rattle.phase_groups.specs.Internal.Noting.{stands_odd}
 
 and_again : (a b : Bool) → (a && (a && b)) ≡ (a && b)
 and_again true b = refl

@@ -1,12 +1,12 @@
 -- Gates whose phases are held together by vertices of a graph that is rewritten, and the phases that they have by now.
 -- Kissinger and van de Wetering, "Reducing the number of non-Clifford gates in quantum circuits" (Phys. Rev. A 102,
 -- 022406, 2020), on phase teleportation.
-use Rattle.std.specs.Prelude.{◌≡◌, ◌<◌, ◌==◌, ℕ, Bool, false, if◌then◌else◌, ltb, Option, Some, None, List, length}
+use Rattle.std.specs.Prelude.{◌≡◌, ◌<◌, ◌==◌, ℕ, Bool, false, if◌then◌else◌, ltb, Option, Some, None, List, [], ◌∷◌, length}
 use Rattle.std.specs.Prelude.{get_or}
 use Rattle.zx_model.specs.Bits.{xor}
 use Rattle.zx_model.specs.Phase.{sum_of_phases}
 use Rattle.zx_calculus.specs.Graph.{Graph}
-use Rattle.zx_calculus.specs.Steps.{Step, Delete, DropLone, FuseInto, FuseTwin}
+use Rattle.zx_calculus.specs.Steps.{Step, Delete, DropLone, FuseInto, FuseTwin, IsStep}
 use Rattle.teleport_laws.specs.Shifts.{signed, negates, into_of}
 use Rattle.vertex_map.specs.Values.{value_at}
 use Rattle.phase_groups.specs.declared.groups.Group.{Group}
@@ -106,3 +106,9 @@ IsFollowed g (FuseInto u) p q = IsFused u (into_of g u) p q
 IsFollowed g (FuseTwin u w) p q = IsFused w u p q
 IsFollowed g s p q =
     ((w : ℕ) → group_of q w ≡ turned_group (negates g s w) (group_of p w)) × (q.phases ≡ p.phases)
+
+-- the steps of a run lead from g to h, and each does to the groups what it does
+abbrev pub FollowRun : Graph → List Step → Graph → Phases → Phases → Type 0
+FollowRun g [] h p q = (g ≡ h) × (p ≡ q)
+FollowRun g (s ∷ steps) h p q =
+    (k : Graph) × (m : Phases) × IsStep g s k × IsFollowed g s p m × FollowRun k steps h m q

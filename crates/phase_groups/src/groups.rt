@@ -6,7 +6,7 @@ ghost use Rattle.graph_rewrites.specs.Steps.{step_named};
 ghost use Rattle.phase_groups.specs.Groups.{Phases as Seen, group_of, phase_of_gate, joined_groups, turned_group};
 ghost use Rattle.phase_groups.specs.Groups.{AreNone, HavePhase, IsAdded, IsLost, ArePutTogether, ArePhasesJoined};
 ghost use Rattle.phase_groups.specs.Groups.{IsFused, IsFollowed};
-ghost use Rattle.phase_groups.specs.Noting.{stands_odd};
+ghost use Rattle.phase_groups.specs.Internal.Noting.{stands_odd};
 ghost use Rattle.phase_groups.specs.Internal.Taking.{IsEmptied, IsTaken};
 ghost use Rattle.teleport_laws.specs.Shifts.{signed};
 ghost use Rattle.zx_model.specs.Phase.{sum_of_phases};

@@ -25,4 +25,3 @@ mod groups;
 mod notes;
 
 pub use groups::{Group, PhaseGroups};
-pub use notes::{Note, Parting, note_of};

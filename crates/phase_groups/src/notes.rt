@@ -7,41 +7,37 @@ ghost use Rattle.zx_calculus.specs.Graph.{joined, is_XY, is_XZ, plane_of, phase_
 ghost use Rattle.zx_calculus.specs.Steps.{FuseInto, allowed};
 ghost use Rattle.graph_rewrites.specs.Steps.{step_named};
 ghost use Rattle.teleport_laws.specs.Shifts.{negates, into_of};
-ghost use Rattle.phase_groups.specs.Noting.{stands_odd, parting_by, IsNoted};
+ghost use Rattle.phase_groups.specs.Internal.Noting.{stands_odd, parting_by, IsNoted};
 
 use graph_rewrites::Step;
 use open_graph::{OpenGraph, Plane, VertexId};
 use std::alloc::{AllocError, Global};
 use zx_model::Sixteenth;
 
-/// Where the phase of a vertex goes that goes itself.
+// Where the phase of a vertex goes that goes itself.
 #[derive(Clone, Copy, Debug)]
-pub enum Parting {
-    /// No vertex goes.
+pub(crate) enum Parting {
+    // No vertex goes.
     Nowhere,
-    /// The vertex is deleted, so its phase stays with it.
+    // The vertex is deleted, so its phase stays with it.
     Deleted(VertexId),
-    /// The vertex is dropped, and its phase doesn't matter any more.
+    // The vertex is dropped, and its phase doesn't matter any more.
     Dropped(VertexId),
-    /// The phase of the first is added to that of the second.
+    // The phase of the first is added to that of the second.
     Fused(VertexId, VertexId),
 }
 
-/// What one rewrite does to the phases of vertices.
+// What one rewrite does to the phases of vertices.
 #[derive(Drop)]
-pub struct Note {
-    /// The vertices whose phases it negates: those that stand here an odd number of times.
-    pub negated: Vec<VertexId>,
-    /// Where the phase goes of the vertex which goes.
-    pub parting: Parting,
+pub(crate) struct Note {
+    // The vertices whose phases it negates: those that stand here an odd number of times.
+    pub(crate) negated: Vec<VertexId>,
+    // Where the phase goes of the vertex which goes.
+    pub(crate) parting: Parting,
 }
 
-/// What a step that is allowed does to the phases of vertices.
-///
-/// # Errors
-///
-/// Only where memory runs out.
-pub fn note_of(alloc: Global, graph: &OpenGraph, step: &Step) -> Result<Note, AllocError>
+// What a step that is allowed does to the phases of vertices.
+pub(crate) fn note_of(alloc: Global, graph: &OpenGraph, step: &Step) -> Result<Note, AllocError>
     requires { allowed graph.now.graph (step_named step.now) ≡ true }
     ensures { IfOk result (IsNoted graph.now.graph (step_named step.now)) }
 {

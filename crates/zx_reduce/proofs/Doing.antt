@@ -1,18 +1,21 @@
 -- Steps that are done one after the other.
 use Rattle.std.proofs.Common.{◌≡◌, refl, sym, ◌∙◌, ap, subst, ◌+◌, ◌≤◌, false, List, [], ◌∷◌, ◌++◌, append_assoc, length, map, arith}
 use Rattle.std.proofs.lemmas.List.{append-nil}
+use Rattle.std.specs.Prelude.{Option, None, Some}
 use Rattle.zx_model.specs.Scalar.{IsScaled}
 use Rattle.zx_model.proofs.Scalars.{scaled_trans}
 use Rattle.zx_calculus.specs.Graph.{Graph}
 use Rattle.zx_calculus.specs.Sum.{graph_sum}
+use Rattle.zx_calculus.specs.Steps as calculus
 use Rattle.zx_calculus.specs.Steps.{IsRun}
 use Rattle.zx_calculus.specs.StepScalars.{step_scalar, IsSumTimes}
 use Rattle.zx_calculus.proofs.Steps.{step_sum, inputs_kept, outputs_kept}
 use Rattle.zx_calculus.proofs.StepScalars.{step_scaled}
+use Rattle.phase_groups.specs.Groups.{Phases, IsFollowed, FollowRun}
 use Rattle.graph_rewrites.specs.Steps.{step_named}
 use Rattle.graph_rewrites.specs.declared.step.Step.{Step}
 use Rattle.zx_reduce.specs.Internal.Ordering.{IsOrdered}
-use Rattle.zx_reduce.specs.Internal.Progress.{Progress, IsDone, AreDone, Tries, most_tried}
+use Rattle.zx_reduce.specs.Internal.Progress.{Progress, IsDone, AreDone, AreFollowed, Tries, most_tried}
 
 pub done_then : (p : Progress) (steps : List Step) (k : Progress) (more : List Step) (q : Progress) → AreDone p steps k → AreDone k more q → AreDone p (steps ++ more) q
 done_then p [] k more q first second = subst (λ x. AreDone x more q) (sym first) second
@@ -70,6 +73,19 @@ done_times g p (s ∷ steps) q inputs outputs done ordered times =
     let k = done.0.ordered.graph in
     done_times g done.0 steps q (inputs_kept h (step_named s) k done.1.step ∙ inputs) (outputs_kept h (step_named s) k done.1.step ∙ outputs) done.2
     (done.1.ordered ordered) (step_times g p s done.0 inputs outputs done.1 ordered times)
+
+-- groups of gates follow their run
+followed_one : (g : Graph) (s : calculus.Step) (x : Phases) (found : Option Phases) → AreFollowed g s (Some x) found → (y : Phases) × (found ≡ Some y) × IsFollowed g s x y
+followed_one g s x None f = absurd f
+followed_one g s x (Some y) f = (y, refl, f)
+
+pub done_followed : (p : Progress) (steps : List Step) (q : Progress) (x : Phases) → AreDone p steps q → p.phases ≡ Some x →
+    (y : Phases) × (q.phases ≡ Some y) × FollowRun p.ordered.graph (map step_named steps) q.ordered.graph x y
+done_followed p [] q x same is = (x, ap (λ (k : Progress). k.phases) (sym same) ∙ is, (ap (λ (k : Progress). k.ordered.graph) same, refl))
+done_followed p (s ∷ steps) q x done is =
+    let one = followed_one p.ordered.graph (step_named s) x done.0.phases (subst (λ a. AreFollowed p.ordered.graph (step_named s) a done.0.phases) is done.1.phases) in
+    let rest = done_followed done.0 steps q one.0 done.2 one.1 in
+    (rest.0, rest.1, (done.0.ordered.graph, one.0, done.1.step, one.2, rest.2))
 
 -- ---- steps that are tried
 pub tries_none : (p : Progress) → Tries p p

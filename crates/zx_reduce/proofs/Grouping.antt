@@ -23,8 +23,8 @@ use Rattle.zx_moves.proofs.MoveEnds.{stuck-reduced}
 use Rattle.zx_reduce.specs.Grouped.{GroupsTo}
 use Rattle.zx_reduce.specs.Internal.Growing.{IsGrown, Gains, GainsNumbered, Held, none_held, held_of, AreHeld, MayBeHeld}
 use Rattle.zx_reduce.specs.Internal.Ordering.{IsOrdered}
-use Rattle.zx_reduce.specs.Internal.Progress.{Progress, AreDone, AreAdded, Notes, EndsWith}
-use Rattle.zx_reduce.proofs.Doing.{done_ordered}
+use Rattle.zx_reduce.specs.Internal.Progress.{Progress, AreDone, AreAdded, Notes, Completes}
+use Rattle.zx_reduce.proofs.Completing.{completed_ordered}
 use Rattle.zx_reduce.proofs.Holdings.{held_on, held_none, held_next, vertex_here, picked-none}
 
 -- the same graph, where other phases are held
@@ -131,33 +131,31 @@ module _ (c : Circuit) (p : Progress) (grown : IsGrown c.qubits (written_out c.g
   whole : WellFormed (translated c)
   whole = (base_growing c.qubits (written_out c.gates) grown.on_qubits).well_formed
 
-  at_end : (phases : Option Phases) (e : EndsWith p phases) → AreReached (held_of c (length c.gates)) (translated c) e.end
-  at_end phases e = all_held (held_of c (length c.gates)) (translated c) whole (record p { takes_gates = false }) e.steps e.end e.done grown.ordered grown.comes.reaches grown.phases
+  module _ (q : Progress) (done : Completes p q) where
+    at_end : AreReached (held_of c (length c.gates)) (translated c) q
+    at_end = all_held (held_of c (length c.gates)) (translated c) whole (record p { takes_gates = false }) done.steps q done.done grown.ordered grown.comes.reaches grown.phases
 
-  -- there are phases, as it is asked for them
-  some_held : (g h : Graph) (r : Reaches g h) (phases : Option Phases) → MayBeHeld (held_of c (length c.gates)) g h r phases → is_some phases ≡ true
-  some_held g h r None m = absurd (true≢false m)
-  some_held g h r (Some x) m = refl
+    -- there are phases, as it is asked for them
+    some_held : (g h : Graph) (r : Reaches g h) (phases : Option Phases) → MayBeHeld (held_of c (length c.gates)) g h r phases → is_some phases ≡ true
+    some_held g h r None m = absurd (true≢false m)
+    some_held g h r (Some x) m = refl
 
-  pub are_some : (phases : Option Phases) → EndsWith p phases → is_some phases ≡ true
-  are_some phases e =
-      let end = at_end phases e in
-      ap is_some e.phases ∙ some_held (translated c) e.end.ordered.graph end.reaches e.end.phases end.phases
+    pub are_some : is_some q.phases ≡ true
+    are_some = some_held (translated c) q.ordered.graph at_end.reaches q.phases at_end.phases
 
-  groups_held : (q : Progress) → IsStuck q.ordered.graph → IsOrdered q.ordered → (r : Reaches (translated c) q.ordered.graph) (x : Phases) →
-      AreHeld (held_of c (length c.gates)) (translated c) q.ordered.graph r x → GroupsTo c x
-  groups_held q stuck ordered r x m = record {
-    steps = r.steps;
-    graph = r.graph;
-    run = r.run;
-    reduced = reached_reduced (translated c) q.ordered.graph whole ordered.well_formed r
-        (stuck-reduced q.ordered.graph ordered.flow.flow.table ordered.well_formed ordered.flow.flow.flow stuck);
-    phases = λ i there. m.agrees.phases i there
-        ∙ teleported-named (translated c) q.ordered.graph whole ordered.well_formed r (phase_at c) (vertex_at c) (odd_gates c) i m.below m.live there;
-  }
+    groups_held : (x : Phases) → AreHeld (held_of c (length c.gates)) (translated c) q.ordered.graph at_end.reaches x → GroupsTo c x
+    groups_held x m =
+        let r = at_end.reaches in
+        let ordered = completed_ordered p q done grown.ordered in
+        record {
+          steps = r.steps;
+          graph = r.graph;
+          run = r.run;
+          reduced = reached_reduced (translated c) q.ordered.graph whole ordered.well_formed r
+              (stuck-reduced q.ordered.graph ordered.flow.flow.table ordered.well_formed ordered.flow.flow.flow done.stuck);
+          phases = λ i there. m.agrees.phases i there
+              ∙ teleported-named (translated c) q.ordered.graph whole ordered.well_formed r (phase_at c) (vertex_at c) (odd_gates c) i m.below m.live there;
+        }
 
-  pub grouped : (x : Phases) → EndsWith p (Some x) → GroupsTo c x
-  grouped x e =
-      let end = at_end (Some x) e in
-      groups_held e.end e.stuck (done_ordered (record p { takes_gates = false }) e.steps e.end e.done grown.ordered) end.reaches x
-      (subst (MayBeHeld (held_of c (length c.gates)) (translated c) e.end.ordered.graph end.reaches) (sym e.phases) end.phases)
+    pub grouped : (x : Phases) → q.phases ≡ Some x → GroupsTo c x
+    grouped x is = groups_held x (subst (MayBeHeld (held_of c (length c.gates)) (translated c) q.ordered.graph at_end.reaches) is at_end.phases)

@@ -13,7 +13,7 @@ use Rattle.zx_calculus.proofs.Ids.{by_test, by_equal, and-left, member-append, m
 use Rattle.zx_gates.specs.Circuit.{Circuit, IsCircuit, is_odd_phase}
 use Rattle.zx_gates.specs.declared.gate.Gate.{Gate}
 use Rattle.zx_gates.specs.declared.gate.Gate.TheVariants.{H, Phase}
-use Rattle.circuit_graph.specs.Translation.{wires, with_gate, written_out, by_hadamards, phase_vertex, places_from, last_spider}
+use Rattle.circuit_graph.specs.Translation.{wires, with_gate, written_out, by_hadamards, phase_vertex, places, places_from, last_spider}
 use Rattle.teleport_laws.specs.Spots.{moved}
 use Rattle.teleport_laws.proofs.Forwards.{later_spot}
 use Rattle.teleport_circuits.specs.Circuits.{phase_in}
@@ -126,10 +126,14 @@ places_at g (first ∷ gates) (suc i) gate within is =
     places_at (fold with_gate g (by_hadamards first)) gates i gate (omega (arith, within)) is
     ∙ ap (λ h. phase_vertex h gate) (sym (fold-append with_gate g (by_hadamards first) (written_out (take i gates))))
 
+pub place_here : (c : Circuit) (i q k : ℕ) → i < length c.gates → gate_at c i ≡ Phase q k →
+    get_or (places c) i None ≡ Some (last_spider (graph_of_gates c.qubits (written_out (take i c.gates) ++ Phase q k ∷ [])) q)
+place_here c i q k within is =
+    places_at (wires c.qubits) c.gates i (Phase q k) within (sym is)
+    ∙ ap (λ g. Some (last_spider g q)) (sym (fold-append with_gate (wires c.qubits) (written_out (take i c.gates)) (Phase q k ∷ [])))
+
 pub vertex_here : (c : Circuit) (i q k : ℕ) → i < length c.gates → gate_at c i ≡ Phase q k → vertex_at c i ≡ last_spider (graph_of_gates c.qubits (written_out (take i c.gates) ++ Phase q k ∷ [])) q
-vertex_here c i q k within is =
-    ap place_number (places_at (wires c.qubits) c.gates i (Phase q k) within (sym is))
-    ∙ ap (λ g. last_spider g q) (sym (fold-append with_gate (wires c.qubits) (written_out (take i c.gates)) (Phase q k ∷ [])))
+vertex_here c i q k within is = ap place_number (place_here c i q k within is)
 
 -- no gate yet
 pub held_none : (c : Circuit) → IsCircuit c → (g h : Graph) (r : Reaches g h) (p : Phases) → AreNone (length c.gates) p → MayBeHeld (held_of c 0) g h r (Some p)

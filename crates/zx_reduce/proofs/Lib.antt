@@ -3,5 +3,5 @@ pub mod GatesOrdered
 pub mod Doing
 pub mod Holdings
 pub mod Growths
-pub mod Grouping
 pub mod Completing
+pub mod Grouping

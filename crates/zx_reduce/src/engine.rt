@@ -4,17 +4,15 @@ ghost use Rattle.std.specs.Prelude.{◌≡◌, ◌≤◌, false, IfOk, OnOk};
 ghost use Rattle.zx_calculus.specs.Graph.{WellFormed};
 ghost use Rattle.zx_moves.specs.Search.{AppliesAt};
 ghost use Rattle.zx_reduce.specs.Internal.Ordering.{IsOrdered};
-ghost use Rattle.zx_reduce.specs.Internal.Progress.{Tries, Exhausts, Completes, EndsWith, most_tried};
+ghost use Rattle.zx_reduce.specs.Internal.Progress.{Tries, Exhausts, Completes, most_tried};
 
 use crate::levels::LEVELS;
 use crate::plan::{Plan, Setting, plan_at};
 use crate::progress::Progress;
 use crate::queue::Queue;
-use crate::reduction::Reduction;
 use crate::twins::{Twins, keyed_gadgets};
 use graph_rewrites::Step;
 use open_graph::{OpenGraph, VertexId};
-use phase_groups::PhaseGroups;
 use std::alloc::{AllocError, Global};
 use zx_moves::{Move, Trace, add_steps, next_move};
 
@@ -193,30 +191,16 @@ impl Engine {
         self.progress.make_all()
     }
 
-    // Which gates hold their phases together once no gates come and all moves are made.
-    pub(crate) fn finish_phases(self) -> Result<Option<PhaseGroups>, AllocError>
-        requires ordered { IsOrdered self.progress.ordered }
-        requires few { self.progress.steps ≤ most_tried }
-        ensures { IfOk result (EndsWith self.progress) }
-    {
-        let mut engine = self;
-        engine.progress.close();
-        engine.queue.touch_all(engine.progress.graph())?;
-        engine.make_all()?;
-        Ok(engine.progress.phases())
-    }
-
     // What is left once no gates come and all moves are made.
-    pub(crate) fn finish(self) -> Result<Reduction, AllocError>
+    pub(crate) fn complete(self) -> Result<Progress, AllocError>
         requires ordered { IsOrdered self.progress.ordered }
         requires few { self.progress.steps ≤ most_tried }
-        ensures { IfOk result (λ made. Completes self.progress
-            made.graph.graph made.flow.flow made.trace.steps made.scalar) }
+        ensures { IfOk result (Completes self.progress) }
     {
         let mut engine = self;
         engine.progress.close();
         engine.queue.touch_all(engine.progress.graph())?;
         engine.make_all()?;
-        engine.progress.finish()
+        Ok(engine.progress)
     }
 }

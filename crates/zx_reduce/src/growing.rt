@@ -45,7 +45,8 @@ pub fn grow(alloc: Global, circuit: &GateList) -> Result<Grown, AllocError>
     for gate in circuit.gates() {
         growing.add_gate(*gate)?;
     }
-    let made = growing.engine.finish()?;
+    let ended = growing.engine.complete()?;
+    let made = ended.finish()?;
     Ok(Grown {
         graph: made.graph,
         flow: made.flow,
@@ -71,8 +72,8 @@ pub fn group_phases(alloc: Global, circuit: &GateList) -> Result<PhaseGroups, Al
     for i in 0..gates.len() {
         growing.add_numbered(i, &gates[i])?;
     }
-    let phases = growing.engine.finish_phases()?;
-    Ok(phases.unwrap())
+    let mut ended = growing.engine.complete()?;
+    Ok(ended.take_phases().unwrap())
 }
 
 // A graph that grows, and what is tried on it.

@@ -41,4 +41,4 @@ mod reduction;
 mod twins;
 
 pub use growing::{Grown, group_phases, grow};
-pub use reduction::{Reduction, reduce_owned};
+pub use reduction::{Reduction, reduce_owned, reduce_with_groups};

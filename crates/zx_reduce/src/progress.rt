@@ -82,10 +82,15 @@ impl Progress {
         })
     }
 
-    // A graph, with the order along which it has a flow.
-    pub(crate) fn of_graph(alloc: Global, graph: OpenGraph, order: Ranks) -> Progress
+    // A graph, with the order along which it has a flow, and groups of gates, where it is asked for them.
+    pub(crate) fn of_graph(
+        alloc: Global,
+        graph: OpenGraph,
+        order: Ranks,
+        phases: Option<PhaseGroups>,
+    ) -> Progress
         requires flow { HasFlowIn graph.graph order }
-        ensures { Begins graph.graph result }
+        ensures { Begins graph.graph phases result }
     {
         Progress {
             ordered: Ordered::of_graph(graph, order),
@@ -93,7 +98,7 @@ impl Progress {
             steps: 0,
             trace: Trace::new(alloc),
             takes_gates: false,
-            phases: None,
+            phases,
         }
     }
 
@@ -114,11 +119,12 @@ impl Progress {
         add_to(&mut self.phases, gate, v, phase)
     }
 
-    // Which gates hold their phases together.
-    pub(crate) fn phases(self) -> Option<PhaseGroups>
-        ensures { result ≡ self.phases }
+    // Which gates hold their phases together, which is forgotten then.
+    pub(crate) fn take_phases(&mut self) -> Option<PhaseGroups>
+        ensures phases { result ≡ self.old.phases }
+        ensures forgotten { self.new ≡ record self.old { phases = None } }
     {
-        self.phases
+        self.phases.take()
     }
 
     // The graph.

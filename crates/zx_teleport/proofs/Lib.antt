@@ -1,6 +1,5 @@
-mod Turning
-mod Carrying
-mod Grouped
+mod HeldGates
+mod Running
 mod Written
 mod Scaling
 mod Results

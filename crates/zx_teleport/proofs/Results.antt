@@ -1,28 +1,22 @@
--- What holds of the gates that teleported phases give.
-use Rattle.std.proofs.Common.{◌≡◌, sym, ◌∙◌, subst, ◌<◌, ◌≤◌, List, map}
+-- The steps lead from the graph of the new circuit to the same end, and so the scalar between the maps is known.
+use Rattle.std.proofs.Common.{◌≡◌, sym, ◌∙◌, subst, ◌<◌, List, map}
 use Rattle.zx_model.specs.Phase.{turn}
 use Rattle.zx_model.specs.Scalar.{IsScaled, quotient_of_scalars}
 use Rattle.zx_model.specs.declared.scalar.Scalar.{Scalar}
-use Rattle.zx_model.specs.Proportional.{Proportional}
 use Rattle.zx_calculus.specs.Graph.{Graph}
-use Rattle.zx_calculus.specs.Counts.{odd_phases}
 use Rattle.zx_calculus.specs.Steps.{IsRun}
 use Rattle.zx_calculus.specs.StepScalars.{IsSumTimes}
-use Rattle.zx_gates.specs.Circuit.{Circuit, IsCircuit, gate_odd_phases}
+use Rattle.zx_gates.specs.Circuit.{Circuit, IsCircuit}
 use Rattle.zx_gates.specs.Maps.{amp}
 use Rattle.zx_gates.specs.declared.gate.Gate.{Gate}
 use Rattle.circuit_graph.specs.Translation.{translated}
-use Rattle.teleport_circuits.specs.Circuits.{IsSkeleton}
-use Rattle.teleport_circuits.specs.Teleporting.{new_phase, spots_of, teleported_gates, teleported_circuit}
-use Rattle.teleport_circuits.proofs.Moving.{skeleton_left}
-use Rattle.teleport_circuits.proofs.Teleporting.{teleported_map, same_run, formed_there}
+use Rattle.teleport_circuits.specs.Teleporting.{teleported_gates, teleported_circuit}
+use Rattle.teleport_circuits.proofs.Teleporting.{same_run, formed_there}
 use Rattle.teleport_circuits.proofs.Quotients.{teleported_quotient}
-use Rattle.teleport_circuits.proofs.OddPhases.{teleported_odd, teleported_fewer}
 use Rattle.graph_rewrites.specs.declared.step.Step as named
 use Rattle.graph_rewrites.specs.Steps.{step_named}
 use Rattle.zx_teleport.specs.Together.{IsPutTogether}
-use Rattle.zx_teleport.specs.Internal.Noting.{MayRun}
-use Rattle.zx_teleport.specs.Internal.Scaling.{HaveScalar}
+use Rattle.zx_teleport.specs.Internal.Scaling.{HaveScalar, MayRun}
 
 -- as the steps are seen
 pub put_seen : (c : Circuit) (steps seen : List named.Step) (h : Graph) (gates : List Gate) → seen ≡ steps →
@@ -36,18 +30,6 @@ module _ (c : Circuit) (g : Graph) (steps seen : List named.Step) (h : Graph) (g
 
   is : gates ≡ teleported_gates c (map step_named steps) h leads
   is = subst (λ s. IsPutTogether c (map step_named s) h gates) same are leads
-
-  pub skeleton : IsSkeleton c.gates gates
-  skeleton = subst (IsSkeleton c.gates) (sym is) (skeleton_left (new_phase c (spots_of c (map step_named steps) h leads)) 0 c.gates)
-
-  pub map_kept : IsCircuit c → Proportional c.qubits c.qubits (amp gates) (amp c.gates)
-  map_kept formed = subst (λ gs. Proportional c.qubits c.qubits (amp gs) (amp c.gates)) (sym is) (teleported_map c (map step_named steps) h leads formed)
-
-  pub few_odd : IsCircuit c → gate_odd_phases gates ≤ odd_phases h
-  few_odd formed = subst (λ gs. gate_odd_phases gs ≤ odd_phases h) (sym is) (teleported_odd c (map step_named steps) h leads formed)
-
-  pub fewer_odd : IsCircuit c → gate_odd_phases gates ≤ gate_odd_phases c.gates
-  fewer_odd formed = subst (λ gs. gate_odd_phases gs ≤ gate_odd_phases c.gates) (sym is) (teleported_fewer c (map step_named steps) h leads formed)
 
   -- the circuit with these gates
   module _ (formed : IsCircuit c) (made : Circuit) (qubits : made.qubits ≡ c.qubits) (its_gates : made.gates ≡ gates) where

@@ -7,23 +7,19 @@
 //! the graph of the read circuit to the reduced graph that it tells; no more phases are odd than in
 //! that graph, nor than were read.
 //!
-//! The steps of the simplification are done once more on the first graph, and noted: which phases
-//! each negates, and where that of a vertex goes that goes itself. Backwards through the notes it is
-//! told for each vertex who holds its phase at the end, and with which sign. The same steps lead from
-//! the graph of the new circuit to the same end, so they are done on that, too: the scalar of the steps
-//! from the first graph over that of the steps from the new one is the scalar between the maps.
+//! While steps are done on the graph, groups of gates follow them (`phase_groups`): which gates hold their phases
+//! together, and with which sign. The same steps lead from the graph of the new circuit to the same end, so they are done
+//! on that, too: the scalar of the steps from the first graph over that of the steps from the new one is the scalar
+//! between the maps.
 //!
 //! `teleport_gates` tells neither steps nor scalar: it takes the phases that `zx_reduce::group_phases` puts together
 //! while the graph grows and is simplified. Of what it answers the same is proved, for some such steps.
 //!
 //! Inside:
 //!
-//! - `notes`: the steps of simplification done once more on the first graph, and of each a note.
-//! - `fates`: backwards through the notes, who holds the phase of each vertex at the end, and
-//!   whether negated.
-//! - `groups`: the sum and the first gate of each group, from the last gate to the first, and the
-//!   circuit with the new phases.
 //! - `teleporting`: `teleport`, with steps and scalar, and without.
+//! - `holding`: which vertices hold the phases of the gates at the beginning, and the circuit with the phases that the
+//!   gates have at the end.
 //! - `scalars`: by which scalar steps change the sum of a graph.
 //!
 //! ```rust
@@ -32,9 +28,7 @@
 //! ```
 #![tactic(auto)]
 
-mod fates;
-mod groups;
-mod notes;
+mod holding;
 mod scalars;
 mod teleporting;
 

@@ -5,9 +5,8 @@ ghost use Rattle.zx_model.specs.Phase.{turn};
 ghost use Rattle.zx_model.specs.Scalar.{IsWithin};
 ghost use Rattle.circuit_graph.specs.Translation.{translated};
 ghost use Rattle.graph_rewrites.specs.Steps.{step_named};
-ghost use Rattle.zx_teleport.specs.Internal.Noting.{MayRun};
 ghost use Rattle.zx_reduce.specs.Scaling.{most_steps};
-ghost use Rattle.zx_teleport.specs.Internal.Scaling.{HaveScalar};
+ghost use Rattle.zx_teleport.specs.Internal.Scaling.{HaveScalar, MayRun};
 
 use circuit_graph::translate;
 use graph_rewrites::Step;

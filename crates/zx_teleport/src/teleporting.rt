@@ -2,39 +2,28 @@
 
 ghost use Rattle.std.specs.Prelude.{◌≡◌, ◌≤◌, ◌*◌, length, map, IfOk, OnOk};
 ghost use Rattle.zx_model.specs.Scalar.{IsWithin};
-ghost use Rattle.zx_calculus.specs.Graph.{Graph};
 ghost use Rattle.zx_calculus.specs.Counts.{odd_phases};
 ghost use Rattle.zx_calculus.specs.Reduced.{IsReduced};
 ghost use Rattle.zx_calculus.specs.Steps.{IsRun};
 ghost use Rattle.zx_calculus.specs.StepScalars.{IsSumTimes};
 ghost use Rattle.zx_gates.specs.Circuit.{gate_odd_phases, IsCircuit};
 ghost use Rattle.zx_gates.specs.Passes.{Preserves};
-ghost use Rattle.gflow_laws.specs.Flow.{IsFlow};
-ghost use Rattle.circuit_graph.specs.Translation.{places, translated};
-ghost use Rattle.teleport_circuits.specs.Circuits.{IsSkeleton, with_phases, without_idle};
-ghost use Rattle.teleport_circuits.specs.Teleporting.{teleported_gates};
+ghost use Rattle.circuit_graph.specs.Translation.{translated};
+ghost use Rattle.teleport_circuits.specs.Circuits.{IsSkeleton};
 ghost use Rattle.zx_teleport.specs.Together.{HasTeleported, IsPutTogether, IsTeleported};
-ghost use Rattle.zx_reduce.specs.Reducing.{Reduces};
 ghost use Rattle.zx_reduce.specs.Scaling.{most_steps, most_reduced_root2};
 ghost use Rattle.graph_rewrites.specs.Steps.{step_named};
 ghost use Rattle.zx_teleport.specs.Scalars.{most_teleported_root2};
-ghost use Rattle.zx_teleport.specs.Internal.Held.{phase_held, phases_held};
-ghost use Rattle.zx_teleport.specs.Internal.Noting.{MayRun};
 
-use crate::fates::Fates;
-use crate::groups::{push_with, regrouped};
-use crate::notes::notes_of;
+use crate::holding::{groups_at, with_groups};
 use crate::scalars::scalar_of;
 use circuit_graph::translate_placed;
-use graph_rewrites::Step;
-use open_graph::{OpenGraph, VertexId};
-use phase_groups::PhaseGroups;
+use open_graph::OpenGraph;
 use std::alloc::{AllocError, Global};
-use zx_flow::Flow;
-use zx_gates::{Gate, GateList};
-use zx_model::{Scalar, Sixteenth};
+use zx_gates::GateList;
+use zx_model::Scalar;
 use zx_moves::Trace;
-use zx_reduce::{Reduction, group_phases, reduce_owned};
+use zx_reduce::{group_phases, reduce_with_groups};
 
 /// A circuit whose phases were put together, the steps by which its graph was simplified to see
 /// which, the simplified graph, and the scalar between the maps.
@@ -110,15 +99,15 @@ fn teleport_unscaled(alloc: Global, read: &GateList) -> Result<Unscaled, AllocEr
     ensures few_steps { IfOk result (λ found. length found.trace.steps ≤ most_steps) }
 {
     let placed = translate_placed(alloc, read)?;
-    let graph = placed.graph;
     let places = placed.places;
-    let simplified = simplified(alloc, &graph, placed.flow)?;
-    let gates = put_together(alloc, read, graph, &places, simplified.trace.as_slice())?;
+    let held = groups_at(alloc, read, &places)?;
+    let (made, groups) = reduce_with_groups(alloc, placed.graph, placed.flow, held)?;
+    let gates = with_groups(alloc, read, &groups)?;
     Ok(Unscaled {
         gates,
-        trace: simplified.trace,
-        reduced: simplified.graph,
-        before: simplified.scalar,
+        trace: made.trace,
+        reduced: made.graph,
+        before: made.scalar,
     })
 }
 
@@ -131,64 +120,6 @@ fn teleport_unscaled(alloc: Global, read: &GateList) -> Result<Unscaled, AllocEr
 pub fn teleport_gates(alloc: Global, read: &GateList) -> Result<GateList, AllocError>
     ensures { IfOk result (λ made. HasTeleported read.now made) }
 {
-    let phases = group_phases(alloc, read)?;
-    with_held(alloc, read, &phases)
-}
-
-// The circuit with the phases that its gates of odd phases have by their groups.
-fn with_held(alloc: Global, read: &GateList, phases: &PhaseGroups) -> Result<GateList, AllocError>
-    ensures circuit { OnOk result (IsCircuit read.now) }
-    ensures qubits { IfOk result (λ made. made.qubits ≡ read.now.qubits) }
-    ensures gates { IfOk result (λ made. made.gates ≡
-        without_idle (with_phases (phases_held read.now phases.now) 0 read.now.gates)) }
-{
-    let mut made = GateList::new(alloc, read.qubits());
-    let gates = read.gates();
-    for i in 0..gates.len() {
-        let phase = held_phase(phases, i, &gates[i]);
-        push_with(&mut made, &gates[i], phase)?;
-    }
-    Ok(made)
-}
-
-// The phase of the gate of a number: by its group, where it is odd.
-fn held_phase(phases: &PhaseGroups, i: usize, gate: &Gate) -> Sixteenth
-    ensures { result ≡ phase_held phases.now i gate.now }
-{
-    match *gate {
-        Gate::Phase(_, phase) if phase.is_odd() => phases.phase(i),
-        Gate::Phase(_, phase) => phase,
-        _ => Sixteenth::new(0),
-    }
-}
-
-// What simplification makes of a copy of a graph with its flow.
-fn simplified(alloc: Global, graph: &OpenGraph, flow: Flow) -> Result<Reduction, AllocError>
-    requires flow { IsFlow graph.now.graph flow.flow }
-    ensures { IfOk result (λ made. Reduces graph.now.graph
-        made.graph.graph made.flow.flow made.trace.steps made.scalar) }
-{
-    reduce_owned(alloc, graph.copy()?, flow)
-}
-
-// The circuit with the phases put together that end up together where these steps are done.
-fn put_together(
-    alloc: Global,
-    read: &GateList,
-    graph: OpenGraph,
-    at: &[Option<VertexId>],
-    steps: &[Step],
-) -> Result<GateList, AllocError>
-    requires graph { graph.graph ≡ translated read.now }
-    requires places { at.now ≡ places read.now }
-    requires run { MayRun graph.graph (map step_named steps.now) }
-    ensures circuit { OnOk result (IsCircuit read.now) }
-    ensures qubits { IfOk result (λ made. made.qubits ≡ read.now.qubits) }
-    ensures gates { IfOk result (λ made. (h : Graph)
-        (run : IsRun (translated read.now) (map step_named steps.now) h) →
-        made.gates ≡ teleported_gates read.now (map step_named steps.now) h run) }
-{
-    let notes = notes_of(alloc, graph, steps)?;
-    let fates = Fates::of_notes(alloc, &notes)?;
-    regrouped(alloc, read, at, &fates)
+    let groups = group_phases(alloc, read)?;
+    with_groups(alloc, read, &groups)
 }

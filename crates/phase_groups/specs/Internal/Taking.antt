@@ -1,7 +1,7 @@
 -- What a step does to the groups, by its note.
 use Rattle.std.specs.Prelude.{◌≡◌, ◌==◌, ℕ, if◌then◌else◌, None}
 use Rattle.phase_groups.specs.Groups.{Phases, group_of, turned_group, IsLost, IsFused}
-use Rattle.phase_groups.specs.Noting.{stands_odd}
+use Rattle.phase_groups.specs.Internal.Noting.{stands_odd}
 use Rattle.phase_groups.specs.declared.notes.Note.{Note}
 use Rattle.phase_groups.specs.declared.notes.Parting.{Parting}
 use Rattle.phase_groups.specs.declared.notes.Parting.TheVariants as partings

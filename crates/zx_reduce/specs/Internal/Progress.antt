@@ -77,14 +77,15 @@ pub record Makes (named : List calculus.Step) (p q : Progress) : Type 0 where
   pub are : map step_named steps ≡ named
   pub done : AreDone p steps q
 
--- g is given to be simplified
-pub record Begins (g : Graph) (p : Progress) : Type 0 where
+-- g is given to be simplified, and groups of gates, where it is asked for them
+pub record Begins (g : Graph) (groups : Option Phases) (p : Progress) : Type 0 where
   pub graph : p.ordered.graph ≡ g
   pub ordered : IsOrdered p.ordered
   pub scalar : p.scalar ≡ one_scalar
   pub steps : p.steps ≡ 0
   pub trace : p.trace ≡ []
   pub takes_gates : p.takes_gates ≡ false
+  pub phases : p.phases ≡ groups
 
 -- after so many steps the scalar is small
 pub record IsSmall (steps : ℕ) (s : Scalar) : Type 0 where
@@ -108,18 +109,12 @@ pub record Finishes (p : Progress) (h : Graph) (table : List Correction) (trace 
   pub scalar : s ≡ p.scalar
   pub small : IsSmall p.steps s
 
--- the same after some steps of p, once no gate comes any more
-pub record Completes (p : Progress) (h : Graph) (table : List Correction) (trace : List Step) (s : Scalar)
-    : Type 0 where
-  pub steps : List Step
-  pub end : Progress
-  pub done : AreDone (record p { takes_gates = false }) steps end
-  pub finishes : Finishes end h table trace s
+-- q is what is left of p once no gate comes any more and steps were done until no move is left
+abbrev pub Completes : Progress → Progress → Type 0
+Completes p q = Exhausts (record p { takes_gates = false }) q
 
--- the groups of gates after some steps of p, once no gate comes any more and no move is left
-pub record EndsWith (p : Progress) (found : Option Phases) : Type 0 where
-  pub steps : List Step
-  pub end : Progress
-  pub done : AreDone (record p { takes_gates = false }) steps end
-  pub stuck : IsStuck end.ordered.graph
-  pub phases : found ≡ end.phases
+-- q is what is left of g once steps were done until no move is left
+pub record IsCompleted (g : Graph) (groups : Option Phases) (q : Progress) : Type 0 where
+  pub begun : Progress
+  pub begins : Begins g groups begun
+  pub completes : Completes begun q

@@ -6,7 +6,7 @@ use Rattle.zx_calculus.proofs.Toggling.{Distinct-neighbours, neighbour_live}
 use Rattle.open_graph.proofs.Walks.{next_some, next_none, next_there, next_all, member-toggled}
 use Rattle.graph_rewrites.specs.Steps.{step_named}
 use Rattle.teleport_laws.specs.Shifts.{negates}
-use Rattle.phase_groups.specs.Noting.{stands_odd}
+use Rattle.phase_groups.specs.Internal.Noting.{stands_odd}
 use Rattle.phase_groups.proofs.Negating.{negated_more, negated_all}
 use Rattle.phase_groups.proofs.notes.negated_near.Goals as goal
 

@@ -4,7 +4,7 @@ use Rattle.zx_model.specs.Bits.{xor, member}
 use Rattle.zx_calculus.specs.Graph.{neighbours}
 use Rattle.graph_rewrites.specs.Steps.{step_named}
 use Rattle.teleport_laws.specs.Shifts.{negates}
-use Rattle.phase_groups.specs.Noting.{stands_odd}
+use Rattle.phase_groups.specs.Internal.Noting.{stands_odd}
 use Rattle.phase_groups.proofs.notes.negated_near.Given as goal
 
 abbrev pub invariant-loop-v : goal.invariant-loop-v

@@ -1,12 +1,12 @@
 -- All gates are there at the end, and the moves that are left do the rest.
 use Rattle.std.proofs.Common.{◌≡◌, ◌<◌, ◌∙◌, sym, ap, subst, [], length, take, get_or, arith}
 use Rattle.circuit_graph.specs.Translation.{written_out}
+use Rattle.std.specs.Prelude.{is_some}
 use Rattle.zx_gates.specs.Circuit.{IsOnQubits}
 use Rattle.zx_gates.specs.declared.gate.Gate.TheVariants.{H}
 use Rattle.growing_laws.proofs.GrownGraphs.{grown_outputs}
 use Rattle.phase_groups.specs.Groups.{AreNone}
 use Rattle.zx_reduce.specs.Internal.Growing.{IsGrown, none_held}
-use Rattle.zx_reduce.specs.Internal.Progress.{EndsWith}
 use Rattle.zx_reduce.proofs.Grouping.{asked, any_end, all_gates, are_some, grouped}
 use Rattle.zx_reduce.proofs.growing.group_phases.Goals as goal
 
@@ -49,7 +49,8 @@ unwrap-requires c =
     let test = c.loop-i-test.false in
     let end = c.loop-i.auto.i-end in
     let all : c.loop-i.i ≡ length read.gates = omega (arith, test, end, ap length c.gates-gates.ensures.value) in
-    are_some read c.loop-i.growing.engine.progress (all_gates read c.loop-i.i c.loop-i.growing.engine.progress all c.loop-i.invariant.grown) c.in_ok-phases.phases c.in_ok-phases.ensures
+    ap is_some c.take_phases.ensures.phases
+    ∙ are_some read c.loop-i.growing.engine.progress (all_gates read c.loop-i.i c.loop-i.growing.engine.progress all c.loop-i.invariant.grown) c.in_ok-ended.ended c.in_ok-ended.ensures
 
 pub returns : goal.returns
 returns c =
@@ -57,5 +58,5 @@ returns c =
     let test = c.loop-i-test.false in
     let end = c.loop-i.auto.i-end in
     let all : c.loop-i.i ≡ length read.gates = omega (arith, test, end, ap length c.gates-gates.ensures.value) in
-    grouped read c.loop-i.growing.engine.progress (all_gates read c.loop-i.i c.loop-i.growing.engine.progress all c.loop-i.invariant.grown) c.unwrap.result
-    (subst (EndsWith c.loop-i.growing.engine.progress) c.unwrap.ensures c.in_ok-phases.ensures)
+    grouped read c.loop-i.growing.engine.progress (all_gates read c.loop-i.i c.loop-i.growing.engine.progress all c.loop-i.invariant.grown) c.in_ok-ended.ended c.in_ok-ended.ensures c.unwrap.result
+    (sym c.take_phases.ensures.phases ∙ c.unwrap.ensures)

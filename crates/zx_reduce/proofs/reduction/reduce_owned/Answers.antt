@@ -1,12 +1,15 @@
--- The graph that was given is what is begun with.
-use Rattle.std.proofs.Common.{◌∙◌, sym, subst}
-use Rattle.zx_reduce.specs.Internal.Progress.{Begins}
-use Rattle.zx_reduce.proofs.Growths.{ok_both}
-use Rattle.zx_reduce.proofs.Completing.{begun_reduces}
+-- What is left once no move is.
+use Rattle.std.proofs.lemmas.Result.{IfOk-weaker}
+use Rattle.zx_reduce.proofs.Completing.{completed_ordered, completed_reduces}
 use Rattle.zx_reduce.proofs.reduction.reduce_owned.Goals as goal
+
+pub finish-requires-clause-ordered : goal.finish-requires-clause-ordered
+finish-requires-clause-ordered c =
+    let is = c.in_ok-ended.ensures in
+    completed_ordered is.begun c.in_ok-ended.ended is.completes is.begins.ordered
 
 pub returns : goal.returns
 returns c =
-    ok_both c.finish.result c.finish.ensures c.finish.ensures
-    (λ made done same. begun_reduces c.args.graph.graph c.add_all.new.self.progress made.graph.graph made.flow.flow made.trace.steps made.scalar
-    (subst (Begins c.args.graph.graph) (sym (c.in_ok-add_all.ensures ∙ c.in_ok-engine.ensures)) c.of_graph.ensures) done)
+    IfOk-weaker c.finish.result _ _
+    (λ made done. completed_reduces c.args.graph.graph _ c.in_ok-ended.ended made.graph.graph made.flow.flow made.trace.steps made.scalar c.in_ok-ended.ensures done)
+    c.finish.ensures

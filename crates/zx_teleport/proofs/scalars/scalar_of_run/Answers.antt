@@ -7,7 +7,7 @@ use Rattle.zx_calculus.proofs.StepScalars.{step_within}
 use Rattle.graph_rewrites.specs.Steps.{step_named}
 use Rattle.zx_moves.specs.Internal.Scaling.{Scales}
 use Rattle.zx_moves.proofs.Scaling.{scales_none, scales_next, scales_step}
-use Rattle.zx_teleport.proofs.Carrying.{next_allowed, next_may_run, next_left}
+use Rattle.zx_teleport.proofs.Running.{next_allowed, next_may_run, next_left}
 use Rattle.zx_teleport.proofs.Scaling.{next_fits, all_done, twice}
 use Rattle.zx_teleport.proofs.scalars.scalar_of_run.Goals as goal
 

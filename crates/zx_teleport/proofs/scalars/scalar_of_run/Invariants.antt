@@ -5,7 +5,7 @@ use Rattle.zx_calculus.specs.Graph.{Graph}
 use Rattle.zx_calculus.specs.Steps.{IsRun}
 use Rattle.graph_rewrites.specs.Steps.{step_named}
 use Rattle.zx_moves.specs.Internal.Scaling.{Scales}
-use Rattle.zx_teleport.specs.Internal.Noting.{MayRun}
+use Rattle.zx_teleport.specs.Internal.Scaling.{MayRun}
 use Rattle.zx_teleport.proofs.scalars.scalar_of_run.Given as goal
 
 abbrev pub invariant-loop-step : goal.invariant-loop-step

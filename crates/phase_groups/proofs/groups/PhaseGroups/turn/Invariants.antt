@@ -1,7 +1,7 @@
 -- Those so far are negated.
 use Rattle.std.proofs.Common.{◌≡◌, ℕ, take}
 use Rattle.phase_groups.specs.Groups.{group_of, turned_group}
-use Rattle.phase_groups.specs.Noting.{stands_odd}
+use Rattle.phase_groups.specs.Internal.Noting.{stands_odd}
 use Rattle.phase_groups.proofs.groups.PhaseGroups.turn.Given as goal
 
 abbrev pub invariant-loop-v : goal.invariant-loop-v
