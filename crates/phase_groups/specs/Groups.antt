@@ -1,8 +1,8 @@
 -- Gates whose phases are held together by vertices of a graph that is rewritten, and the phases that they have by now.
 -- Kissinger and van de Wetering, "Reducing the number of non-Clifford gates in quantum circuits" (Phys. Rev. A 102,
 -- 022406, 2020), on phase teleportation.
-use Rattle.std.specs.Prelude.{◌≡◌, ◌<◌, ◌==◌, ℕ, Bool, false, if◌then◌else◌, ltb, Option, Some, None, List, [], ◌∷◌, length}
-use Rattle.std.specs.Prelude.{get_or}
+use Rattle.std.specs.Prelude.{◌≡◌, ◌<◌, ◌==◌, ℕ, Bool, false, if◌then◌else◌, ltb, Option, Some, None}
+use Rattle.std.specs.Prelude.{List, [], ◌∷◌, length, get_or}
 use Rattle.zx_model.specs.Bits.{xor}
 use Rattle.zx_model.specs.Phase.{sum_of_phases}
 use Rattle.zx_calculus.specs.Graph.{Graph}

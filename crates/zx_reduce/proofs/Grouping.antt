@@ -5,7 +5,6 @@ use Rattle.std.proofs.lemmas.List.{flat_map_more}
 use Rattle.std.specs.Prelude.{Option, None, Some, is_some}
 use Rattle.zx_model.specs.Phase.{is_odd}
 use Rattle.zx_calculus.specs.Graph.{Graph, WellFormed}
-use Rattle.zx_calculus.specs.Moves.{IsStuck}
 use Rattle.zx_gates.specs.Circuit.{Circuit, IsCircuit, is_odd_phase}
 use Rattle.zx_gates.specs.declared.gate.Gate.{Gate}
 use Rattle.zx_gates.specs.declared.gate.Gate.TheVariants.{H, Phase, Cz, Cx, Not}

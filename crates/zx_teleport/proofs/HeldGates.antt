@@ -1,5 +1,5 @@
 -- Gates whose phases are held where they come, one after the other.
-use Rattle.std.proofs.Common.{◌≡◌, refl, sym, ◌∙◌, ap, ap₂, subst, ℕ, ◌+◌, ◌<◌, true, false, List, length, filter, get_or, Option, Some, None, true≢false, arith}
+use Rattle.std.proofs.Common.{◌≡◌, refl, sym, ◌∙◌, ap, ap₂, subst, ℕ, ◌+◌, ◌<◌, true, false, List, length, filter, get_or, Some, None, true≢false, arith}
 use Rattle.std.proofs.lemmas.List.{get_or_default}
 use Rattle.std.specs.List.{range_with_len}
 use Rattle.zx_calculus.proofs.Ids.{by_test}
@@ -8,7 +8,6 @@ use Rattle.zx_gates.specs.declared.gate.Gate.{Gate}
 use Rattle.zx_gates.specs.declared.gate.Gate.TheVariants.{H, Phase, Cz, Cx, Not}
 use Rattle.circuit_graph.specs.Translation.{places}
 use Rattle.teleport_laws.specs.Spots.{spot_at}
-use Rattle.teleport_circuits.specs.Circuits.{phase_in}
 use Rattle.teleport_circuits.specs.Teleporting.{gate_at, phase_at, place_number, vertex_at}
 use Rattle.teleport_circuits.proofs.Teleporting.{phase_at-low}
 use Rattle.phase_groups.specs.Groups.{Phases, AreNone, IsAdded}
