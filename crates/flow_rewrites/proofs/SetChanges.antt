@@ -1,9 +1,8 @@
 -- What a step makes of a flow, and of the memory of graph and flow.
-use Rattle.std.proofs.Common.{◌≡◌, sym, ◌∙◌, ap, subst, ℕ, ◌<◌, true, false, ◌||◌, ◌⊎◌, inl, inr, List, ◌∷◌, arith}
+use Rattle.std.proofs.Common.{◌≡◌, ap, subst, ℕ, true, false, ◌⊎◌, inl, inr, List, arith}
 use Rattle.std.specs.Prelude.{Result, Ok, Err, OnOk, IfOk}
 use Rattle.zx_model.specs.Bits.{member}
 use Rattle.zx_model.specs.declared.scalar.Scalar.{Scalar}
-use Rattle.zx_bits.specs.Sets.{IsBelow}
 use Rattle.zx_calculus.specs.Graph.{Graph, End, ids, end_vertices, plane_of, IsVertex, OrderedEnds, WellFormed}
 use Rattle.zx_calculus.specs.Deletions.{IsDelete}
 use Rattle.zx_calculus.specs.Splits.{new_vertex}
@@ -13,7 +12,6 @@ use Rattle.zx_calculus.specs.StepScalars.{step_scalar}
 use Rattle.zx_calculus.proofs.Allowed.{complement_live, complement_interior, pivot_live, pivot_live_too, pivot_interior, pivot_interior_too}
 use Rattle.zx_calculus.proofs.Allowed.{drop_lone_live, drop_lone_YZ, fuse_into_live, fuse_into_YZ, fuse_twin_live, fuse_twin_YZ}
 use Rattle.zx_calculus.proofs.Counting.{YZ_apart}
-use Rattle.zx_calculus.proofs.Ids.{by_equal}
 use Rattle.zx_calculus.proofs.Splitting.{all_at}
 use Rattle.zx_calculus.proofs.Steps.{after_step}
 use Rattle.gflow_laws.specs.Seen.{seen}
@@ -76,10 +74,6 @@ pub end_live : (g : Graph) (ends : List End) (b : ℕ) → OrderedEnds g.vertice
 end_live g ends b o there = all_at (λ u. member u (ids g.vertices)) (end_vertices ends) b o.there there
 
 -- ---- memory
-below_with_new : (new : ℕ) (old : List ℕ) (reach : ℕ) → new < reach → IsBelow reach old → IsBelow reach (new ∷ old)
-below_with_new new old reach first rest v there =
-    by_equal v new (λ t e. omega (arith, e, first)) (λ f n. rest v (ap (λ b. b || member v old) (sym f) ∙ there))
-
 -- all ids are below the reach of graph and flow where they have the memory for any step
 pub have_reach : (s : Step) (g : OpenGraph) (f : Flow) → HaveRoomFor s g f → HaveReach g f
 have_reach (LocalComplement u) g f room = room

@@ -5,13 +5,11 @@ use Rattle.zx_calculus.proofs.Booleans.{parities, xor-false}
 use Rattle.zx_calculus.proofs.Ids.{by_equal}
 use Rattle.gflow_laws.specs.Seen.{Seen, in_odd_neighbourhood}
 use Rattle.gflow_laws.specs.Flow.{Correction, order_of, set_of, is_in, SameSets, odd_in}
-use Rattle.gflow_laws.specs.Tables.{symmetric_difference, without_set}
 use Rattle.gflow_laws.specs.Complements.{set_about, set_beside, complement_table}
-use Rattle.gflow_laws.specs.Removals.{removal_table}
-use Rattle.gflow_laws.proofs.Lists.{is_in-symmetric_difference, is_in-one}
+use Rattle.gflow_laws.proofs.Lists.{is_in-one}
 use Rattle.gflow_laws.proofs.Complements.{is_in-set_about, is_in-set_beside}
-use Rattle.gflow_laws.specs.Internal.Changes.{AreChanged, complement_change, removal_change}
-use Rattle.gflow_laws.proofs.SetChanges.{all_changed, changed_at, IsToggledAt, IsToggledAt-none, IsToggledAt-more}
+use Rattle.gflow_laws.specs.Internal.Changes.{AreChanged, complement_change}
+use Rattle.gflow_laws.proofs.SetChanges.{all_changed, changed_at, IsToggledAt, IsToggledAt-more}
 
 twice : (a o e : Bool) → xor a (xor o false) ≡ xor (xor a (xor o e)) e
 twice a o e = let back : xor a o ≡ xor (xor a (xor o e)) e = simp parities in ap (xor a) (xor-false o) ∙ back
@@ -52,21 +50,6 @@ complement_done s u t t' c = all_changed (complement_change s u (set_of t u)) se
         (λ b n. rw b (in_beside (is_in (set_of t v)) w (in_odd_neighbourhood s (is_in (set_of t v)) u)
         ∙ sym (is_in-set_beside s u own (set_of t v) w)))
 
--- all sets after u went
-pub removal_done : (u : ℕ) (t t' : List Correction) →
-    AreChanged (removal_change u (set_of t u)) (order_of (without_set u t)) (without_set u t) t' →
-    SameSets t' (removal_table u t)
-removal_done u t t' c =
-    all_changed (removal_change u (set_of t u))
-    (λ v members. cond (is_in members u) (symmetric_difference members (set_of t u)) members)
-    (without_set u t) t' (λ v w. at (set_of (without_set u t) v) w (is_in (set_of (without_set u t) v) u)) c
-  where
-    at : (set : List ℕ) (w : ℕ) (b : Bool) →
-        cond b (xor (is_in set w) (is_in (set_of t u) w)) (is_in set w) ≡ is_in
-        (cond b (symmetric_difference set (set_of t u)) set) w
-    at set w true = sym (is_in-symmetric_difference set (set_of t u) w)
-    at set w false = refl
-
 -- The change of one set. That of u itself: u is toggled where its plane changes
 pub own_toggled : (s : Seen) (u v : ℕ) (own : List ℕ) (t t' : List Correction) → eqb v u ≡ true →
     odd_in (s.plane u) ≡ true →
@@ -89,14 +72,3 @@ beside_toggled_too s u v own t t1 t2 other is_odd stays c d =
     changed_at (complement_change s u own) v (λ w. xor (is_in own w) (is_in (u ∷ []) w)) t t2
     (IsToggledAt-more v (is_in own) (is_in (u ∷ [])) t t1 t2 c d)
     (λ w. rw (other, is_odd, stays) (ap (λ b. xor (is_in (set_of t v) w) (xor (is_in own w) b)) (sym (is_in-one u w))))
-
--- u goes: a set that holds it, and one that doesn't
-pub member_cleared : (u v : ℕ) (own : List ℕ) (t t' : List Correction) → is_in (set_of t v) u ≡ true →
-    IsToggledAt v (is_in own) t t' → AreChanged (removal_change u own) (v ∷ []) t t'
-member_cleared u v own t t' there c = changed_at (removal_change u own) v (is_in own) t t' c (λ w. rw there refl)
-
-pub absent_stays : (u v : ℕ) (own : List ℕ) (t : List Correction) → is_in (set_of t v) u ≡ false →
-    AreChanged (removal_change u own) (v ∷ []) t t
-absent_stays u v own t absent =
-    changed_at (removal_change u own) v (λ w. false) t t (IsToggledAt-none v t)
-    (λ w. rw absent (sym (xor-false (is_in (set_of t v) w))))

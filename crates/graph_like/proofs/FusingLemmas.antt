@@ -1,12 +1,11 @@
 -- Contracting plain edges, one spider after the other.
-use Rattle.std.proofs.Common.{◌≡◌, ◌≢◌, ◌⊎◌, inl, inr, refl, sym, ◌∙◌, ap, ap₂, subst, ℕ, suc, ◌+◌, ◌<◌, ◌≤◌, Bool, true, false, ◌&&◌, ◌||◌, eqb, ltb, ltb-true, ltb-false, List, [], ◌∷◌, ◌++◌, length, take, get_or, set, length-append, ◌-◌, true≢false, arith}
+use Rattle.std.proofs.Common.{◌≡◌, ◌≢◌, ◌⊎◌, inl, inr, refl, sym, ◌∙◌, ap, ap₂, subst, ℕ, suc, ◌+◌, ◌<◌, ◌≤◌, Bool, true, false, ◌&&◌, ◌||◌, eqb, ltb, ltb-true, ltb-false, List, [], ◌∷◌, ◌++◌, length, take, get_or, set, ◌-◌, true≢false, arith}
 use Rattle.std.specs.Prelude.{slice_index_or, zero as nought}
-use Rattle.std.proofs.lemmas.List.{take_more, take-append-le, get_or_append_left, get_or-set_same, get_or-set_other}
-use Rattle.std.proofs.Math.Seq.{get_or-append_right}
+use Rattle.std.proofs.lemmas.List.{take_more, take-append-le, get_or-set_same, get_or-set_other}
 use Rattle.zx_model.specs.Bits.{member}
 use Rattle.zx_calculus.proofs.Ids.{by_test, by_equal, eqb-self, member-append}
 use Rattle.zx_diagram.specs.Diagram.{Diagram, IsDiagram}
-use Rattle.graph_like.specs.Classes.{IsSameAlong, AreFused, NamesClasses, named_by}
+use Rattle.graph_like.specs.Classes.{IsSameAlong, AreFused, NamesClasses}
 use Rattle.graph_like.specs.Internal.Fusing.{near_at, AreWithin, IsFusing, IsStage, IsTakenIn}
 use Rattle.graph_like.proofs.ClassLemmas.{alone_along}
 
@@ -114,35 +113,6 @@ all_taken_in d least near u f all = record {
         (λ s e. s ∙ sym (ap (λ q. eqb q u) (reached _ _ (f.first k o h plain) e) ∙ eqb-self u))
         (λ s n. s ∙ sym (apart_eqb _ _ (λ e. n (reached _ _ (f.second k o h plain) e))))
 
--- a spider that was taken in has nothing to do
-pub passed_over : (d : Diagram) (least : ℕ → ℕ) (near : ℕ → List ℕ) (u : ℕ) → IsFusing d least near u u → least u ≢ u →
-    IsFusing d least near (suc u) (suc u)
-passed_over d least near u f other = record {
-  low = f.low;
-  later = λ w from. f.later w (omega arith);
-  fused = f.fused;
-  closed = λ r below. by_equal r u
-      (λ s e. subst (λ q. IsSameAlong d (λ w. eqb (least w) q)) (sym e) (λ k o h. λ plain. none _ ∙ sym (none _)))
-      (λ s n. f.closed r (omega arith));
-  sound = f.sound;
-  first = λ k e h. λ plain from. f.first k e h plain (omega arith);
-  second = λ k e h. λ plain from. f.second k e h plain (omega arith);
-}
-  where
-    none : (w : ℕ) → eqb (least w) u ≡ false
-    none w = apart_eqb (least w) u (λ e. other (ap least (sym (sym (f.later w (omega arith)) ∙ e)) ∙ e))
-
-pub begins : (d : Diagram) (least : ℕ → ℕ) (near : ℕ → List ℕ) (u : ℕ) → IsFusing d least near u u → IsFusing d least near u (suc u)
-begins d least near u f = record {
-  low = f.low;
-  later = λ w from. f.later w (omega arith);
-  fused = f.fused;
-  closed = f.closed;
-  sound = f.sound;
-  first = f.first;
-  second = f.second;
-}
-
 -- when all are done, classes are named
 pub all_done : (d : Diagram) (least : ℕ → ℕ) (near : ℕ → List ℕ) → IsDiagram d → IsFusing d least near (length d.spiders) (length d.spiders) →
     NamesClasses d least
@@ -239,39 +209,6 @@ within-taken near list least new u v n t w k x there =
     from : (member x (near_at near u) ≡ true) ⊎ (member x (near_at near v) ≡ true) → x < n
     from (inl m) = w u x m
     from (inr m) = w v x m
-
-pub longer-taken : (near list : ℕ → List ℕ) (least new : ℕ → ℕ) (u v : ℕ) → IsTakenIn least new near list u v → length (near u) ≤ length (list u)
-longer-taken near list least new u v t =
-    let same : length (list u) ≡ length (near u ++ near v) = ap length t.taken_over in
-    let sum : length (near u ++ near v) ≡ length (near u) + length (near v) = length-append (near u) (near v) in
-    omega arith
-
--- one element more
-pub named_by-push : (xs : List ℕ) → ((w : ℕ) → named_by xs w ≡ w) → (w : ℕ) → named_by (xs ++ length xs ∷ []) w ≡ w
-named_by-push xs own w =
-    by_test (ltb w (length xs))
-    (λ low. get_or_append_left xs (length xs ∷ []) w w (ltb-true _ _ low) ∙ own w)
-    (λ far. let from : length xs ≤ w = ltb-false _ _ far in get_or-append_right xs (length xs ∷ []) w w from ∙ last w from)
-  where
-    beyond : (x d j : ℕ) → 0 < j → get_or (x ∷ []) j d ≡ d
-    beyond x d nought h = absurd (omega arith)
-    beyond x d (suc j) h = refl
-
-    last : (w : ℕ) → length xs ≤ w → get_or (length xs ∷ []) (w - length xs) w ≡ w
-    last w from =
-        by_equal w (length xs)
-        (λ s e. let none : w - length xs ≡ 0 = omega arith in ap (λ j. get_or (length xs ∷ []) j w) none ∙ sym e)
-        (λ s n. beyond (length xs) w (w - length xs) (omega arith))
-
-pub near_at-push : (xs : List (List ℕ)) → ((k : ℕ) → near_at xs k ≡ []) → (k : ℕ) → near_at (xs ++ [] ∷ []) k ≡ []
-near_at-push xs none k =
-    by_test (ltb k (length xs))
-    (λ low. get_or_append_left xs ([] ∷ []) [] k (ltb-true _ _ low) ∙ none k)
-    (λ far. let from : length xs ≤ k = ltb-false _ _ far in get_or-append_right xs ([] ∷ []) k [] from ∙ last (k - length xs))
-  where
-    last : (j : ℕ) → get_or {A = List ℕ} ([] ∷ []) j [] ≡ []
-    last nought = refl
-    last (suc j) = refl
 
 -- a list gains one
 pub member_pushed : (near : List (List ℕ)) (a b : ℕ) → a < length near → (k x : ℕ) →

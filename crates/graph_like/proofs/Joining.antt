@@ -1,5 +1,5 @@
 -- The lists of neighbours along plain edges, edge by edge.
-use Rattle.std.proofs.Common.{◌≡◌, ◌⊎◌, inl, inr, refl, sym, ◌∙◌, ap, ap₂, subst, ℕ, ◌+◌, ◌<◌, ◌≤◌, Bool, true, false, ◌&&◌, ◌||◌, eqb, List, [], length, true≢false, arith}
+use Rattle.std.proofs.Common.{◌≡◌, ◌⊎◌, inl, inr, refl, sym, ◌∙◌, ap, ap₂, subst, ℕ, ◌+◌, ◌<◌, Bool, true, false, ◌&&◌, ◌||◌, eqb, List, length, true≢false, arith}
 use Rattle.std.specs.Prelude.{slice_index_or}
 use Rattle.zx_model.specs.Bits.{member}
 use Rattle.zx_calculus.proofs.Ids.{by_test, by_equal, eqb-self, and-left, and-right}
@@ -21,15 +21,6 @@ pub record IsJoined (d : Diagram) (near : List (List ℕ)) (i : ℕ) : Type 0 wh
       member (slice_index_or d.edges j o).b (near_at near (slice_index_or d.edges j o).a) ≡ true
   pub second : (j : ℕ) (o : Wire) → j < i → edge_mark d.spiders (slice_index_or d.edges j o) ≡ false →
       member (slice_index_or d.edges j o).a (near_at near (slice_index_or d.edges j o).b) ≡ true
-
-pub joined-none : (d : Diagram) (near : List (List ℕ)) → length near ≡ length d.spiders → ((k : ℕ) → near_at near k ≡ []) → IsJoined d near 0
-joined-none d near same none = record {
-  same = same;
-  within = λ k v m. absurd (true≢false (sym m ∙ ap (member v) (none k)));
-  sound = λ k v m. absurd (true≢false (sym m ∙ ap (member v) (none k)));
-  first = λ j o low. absurd (omega arith);
-  second = λ j o low. absurd (omega arith);
-}
 
 pub joined-skipped : (d : Diagram) (near : List (List ℕ)) (i : ℕ) (e : Wire) → ((o : Wire) → slice_index_or d.edges i o ≡ e) →
     edge_mark d.spiders e ≡ true → IsJoined d near i → IsJoined d near (i + 1)
@@ -103,17 +94,6 @@ joined-more d near new i e is low at plain length_kept members s = record {
         new_one (inr h) test same =
             ap test (equal k e.b (and-left _ _ h)) ∙ sym (along test same) ∙ ap test (sym (equal v e.a (and-right _ _ h)))
 
-pub fusing_begins : (d : Diagram) (near : List (List ℕ)) (i : ℕ) → length d.edges ≤ i → IsJoined d near i → IsFusing d (λ w. w) (near_at near) 0 0
-fusing_begins d near i all s = record {
-  low = λ w. omega arith;
-  later = λ w from. refl;
-  fused = λ w test same. refl;
-  closed = λ r below. absurd (omega arith);
-  sound = s.sound;
-  first = λ k o h. λ plain from. s.first k o (omega arith) plain;
-  second = λ k o h. λ plain from. s.second k o (omega arith) plain;
-}
-
 pub joined-step : (d : Diagram) (near new : List (List ℕ)) (i : ℕ) (e : Wire) → IsDiagram d → i < length d.edges →
     ((o : Wire) → slice_index_or d.edges i o ≡ e) → length new ≡ length near →
     (edge_mark d.spiders e ≡ false → GainsEdge (near_at near) e (near_at new)) → (edge_mark d.spiders e ≡ true → new ≡ near) →
@@ -145,12 +125,3 @@ pub record IsFusingLists (d : Diagram) (near : List (List ℕ)) (least : List �
   pub same_least : length least ≡ length d.spiders
   pub within : AreWithin near (length d.spiders)
   pub fusing : IsFusing d (named_by least) (near_at near) u u
-
-pub lists_begin : (d : Diagram) (near : List (List ℕ)) (least : List ℕ) → length near ≡ length d.spiders → length least ≡ length d.spiders →
-    AreWithin near (length d.spiders) → ((w : ℕ) → named_by least w ≡ w) → IsFusing d (λ w. w) (near_at near) 0 0 → IsFusingLists d near least 0
-lists_begin d near least same same_least within own f = record {
-  same = same;
-  same_least = same_least;
-  within = within;
-  fusing = subst (λ l. IsFusing d l (near_at near) 0 0) (λ i w. sym (own w) i) f;
-}

@@ -1,9 +1,8 @@
 -- A vertex removed from slots, and from the rows of its neighbours one after the other.
-use Rattle.std.proofs.Common.{◌≡◌, ◌≢◌, refl, sym, ◌∙◌, ap, ℕ, zero, suc, ◌<◌, Bool, true, false, cond, ◌||◌, eqb, List, [], ◌∷◌, length, get_or, take, Option, None, IsSome, slice_index_or, true≢false, eq-eqb, ne_eqb, arith}
+use Rattle.std.proofs.Common.{◌≡◌, ◌≢◌, refl, sym, ◌∙◌, ap, ℕ, Bool, true, false, cond, ◌||◌, eqb, List, Option, None, IsSome, slice_index_or, true≢false, ne_eqb, arith}
 use Rattle.zx_model.specs.Bits.{member}
 use Rattle.zx_calculus.specs.Graph.{End, Graph, ids, joined, without, WellFormed, Interior}
 use Rattle.zx_calculus.specs.Edits.{IsRemoval}
-use Rattle.zx_calculus.proofs.Booleans.{or-true}
 use Rattle.zx_calculus.proofs.Ids.{by_test, by_equal, removed, removed-absent, member-removed, member-removed_other, Symmetric}
 use Rattle.zx_calculus.proofs.Edges.{joined_comm}
 use Rattle.zx_calculus.proofs.Forms.{ids-without}
@@ -17,23 +16,6 @@ use Rattle.open_graph.specs.Internal.Changes.{Puts, Stores, without_neighbour, R
 use Rattle.open_graph.proofs.PlaceLemmas.{place_among-absent}
 use Rattle.open_graph.proofs.SlotLemmas.{row_of_dead, some_of_live}
 use Rattle.open_graph.proofs.Keeping.{puts_at, puts_other, sound_keeps, becomes, Becomes}
-
--- an item of a list is a member
-pub member-item : (xs : List ℕ) (k w : ℕ) → k < length xs → w ≡ get_or xs k w → member w xs ≡ true
-member-item [] k w lt is = absurd (omega arith)
-member-item (x ∷ xs) zero w lt is = ap (λ b. b || member w xs) (eq-eqb w x is)
-member-item (x ∷ xs) (suc k) w lt is = ap (λ b. eqb w x || b) (member-item xs k w (omega arith) is) ∙ or-true (eqb w x)
-
--- membership in one more of a list
-pub member-take_more : (xs : List ℕ) (k w : ℕ) → k < length xs → w ≡ get_or xs k w → (p : ℕ) → member p (take (suc k) xs) ≡ (eqb p w || member p (take k xs))
-member-take_more [] k w lt is p = absurd (omega arith)
-member-take_more (x ∷ xs) zero w lt is p = ap (λ y. eqb p y || false) (sym is)
-member-take_more (x ∷ xs) (suc k) w lt is p = ap (λ b. eqb p x || b) (member-take_more xs k w (omega arith) is p) ∙ or_swap (eqb p x) (eqb p w) (member p (take k xs))
-  where
-    or_swap : (a b c : Bool) → (a || (b || c)) ≡ (b || (a || c))
-    or_swap true true c = refl
-    or_swap true false c = refl
-    or_swap false b c = refl
 
 -- only the row differs
 only_row : (v : ℕ) (b : Bool) (t : Told) → cond b (without_neighbour v t) t ≡ record t { row = cond b (removed v t.row) t.row }

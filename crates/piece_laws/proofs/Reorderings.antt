@@ -90,12 +90,6 @@ none_on g (x ∷ xs) apart q on =
     ap (λ b. cond b (x ∷ gates_on q xs) (gates_on q xs)) (apart_off g x each.0 q on) ∙ none_on g xs each.1 q on
 
 -- ---- laws of the relation
-pub reordered-of : (gates others : List Gate) → gates ≡ others → IsReordered gates others
-reordered-of gates others e q = ap (gates_on q) e
-
-pub reordered-trans : (a b c : List Gate) → IsReordered a b → IsReordered b c → IsReordered a c
-reordered-trans a b c first second q = first q ∙ second q
-
 pub reordered-append : (a b c d : List Gate) → IsReordered a b → IsReordered c d → IsReordered (a ++ c) (b ++ d)
 reordered-append a b c d first second q =
     filter-append (is_on q) a c ∙ ap₂ (λ s t. s ++ t) (first q) (second q) ∙ sym (filter-append (is_on q) b d)

@@ -22,8 +22,8 @@ use Rattle.circuit_graph.proofs.Whole.{translated_map}
 use Rattle.teleport_laws.specs.Shifts.{shifted}
 use Rattle.teleport_laws.specs.Spots.{At, Spot, spot_at}
 use Rattle.teleport_laws.specs.Groups.{placed, change, teleported, AreGatesOf}
-use Rattle.teleport_laws.proofs.Carrying.{AreBelow, held-below, none_plus, cond-below}
-use Rattle.teleport_laws.proofs.Grouping.{change_balanced, teleported-low}
+use Rattle.teleport_laws.proofs.Carrying.{AreBelow, held-below, none_plus}
+use Rattle.teleport_laws.proofs.Grouping.{change_balanced}
 use Rattle.teleport_laws.proofs.Placing.{leads_to_the_same, keeps_the_sum}
 use Rattle.teleport_circuits.specs.Circuits.{phase_in, added_by}
 use Rattle.teleport_circuits.specs.Teleporting.{gate_at, phase_at, vertex_at, odd_gates, new_phase, spots_of, teleported_gates, teleported_circuit}
@@ -57,10 +57,6 @@ phase_at-low c formed i =
     by_test (ltb i (length c.gates))
     (λ t. phase_in-low (gate_at c i) (formed.on_qubits i (H 0) (ltb-true i (length c.gates) t)).1)
     (λ f. subst (λ gate. phase_in gate < turn) (sym (get_or_past c.gates i (H 0) (ltb-false i (length c.gates) f))) (omega arith))
-
-pub new_phase-low : (c : Circuit) (spot : ℕ → Spot) → IsCircuit c → AreBelow (new_phase c spot)
-new_phase-low c spot formed i =
-    cond-below (is_odd_phase (gate_at c i)) _ _ (teleported-low (phase_at c) spot (odd_gates c) i) (phase_at-low c formed i)
 
 -- ---- sums over the gates that are picked
 pub placed_same : (f k vertex_of : ℕ → ℕ) (pick : ℕ → Bool) (numbers : List ℕ) (v : ℕ) → ((i : ℕ) → pick i ≡ true → f i ≡ k i) → placed f vertex_of (filter pick numbers) v ≡ placed k vertex_of (filter pick numbers) v

@@ -4,12 +4,12 @@ use Rattle.zx_model.specs.Phase.{turn, sum_of_phases}
 use Rattle.zx_model.specs.Bits.{member, xor}
 use Rattle.zx_calculus.proofs.Ids.{by_test, eqb-self}
 use Rattle.zx_calculus.specs.Graph.{Graph}
-use Rattle.zx_calculus.specs.Steps.{Step, LocalComplement, Delete, Pivot, SplitInput, SplitOutput, DropLone, FuseInto, FuseTwin, IsRun}
+use Rattle.zx_calculus.specs.Steps.{Step, LocalComplement, Delete, Pivot, SplitInput, SplitOutput, DropLone, FuseInto, FuseTwin}
 use Rattle.teleport_laws.specs.Shifts.{signed, negates}
-use Rattle.teleport_laws.specs.Spots.{Holder, At, Deleted, Dropped, Spot, holder_after, spot_after, moved, carried}
+use Rattle.teleport_laws.specs.Spots.{Holder, At, Deleted, Dropped, Spot, holder_after, spot_after}
 use Rattle.teleport_laws.specs.Groups.{same_holder, is_dropped, part, held, first_of, teleported}
 use Rattle.teleport_laws.specs.Internal.Rising.{AreRising}
-use Rattle.teleport_laws.proofs.Carrying.{AreBelow, signed-below, signed-none, signed-sum, signed-signed, zero_low, part-below, held-below, none_plus}
+use Rattle.teleport_laws.proofs.Carrying.{AreBelow, signed-below, signed-none, signed-sum, signed-signed, part-below, held-below, none_plus}
 use Rattle.teleport_laws.proofs.Grouping.{same_holder-self}
 use Rattle.teleport_laws.proofs.Shifting.{plus_none, four_phases}
 
@@ -136,14 +136,6 @@ module _ (phase : ℕ → ℕ) (low : AreBelow phase) (spot : ℕ → Spot) (gat
       let all_held : held phase spot longer h ≡ sum_of_phases (held phase spot gates h) (phase n) = held-longer phase low spot h n gates ∙ rw (held_there, plain) refl in
       ap₂ (λ f k. cond (is_dropped h || not (eqb i f)) 0 (signed (spot i).negated k)) (first-stays phase low spot h n gates i there (same_holder-self h)) all_held
       ∙ rw (matters, is_first) (signed-sum (spot i).negated (held phase spot gates h) (phase n) (held-below phase spot gates h) (low n))
-
-  -- the others there get none, with or without it
-  pub teleported-behind : (i : ℕ) → eqb i (first_of spot longer (spot i).holder) ≡ false → teleported phase spot longer i ≡ 0
-  teleported-behind i behind = rw behind (none (is_dropped (spot i).holder))
-    where
-      none : (b : Bool) → cond (b || true) 0 (signed (spot i).negated (held phase spot longer (spot i).holder)) ≡ 0
-      none true = refl
-      none false = refl
 
   -- the new one keeps its own where no other gate is
   pub teleported-alone : ((j : ℕ) → member j gates ≡ true → same_holder (spot j).holder (spot n).holder ≡ false) → (spot n).negated ≡ false →

@@ -1,5 +1,5 @@
 -- The places that are left where words are read one after the other, and the first of them.
-use Rattle.std.proofs.Common.{◌≡◌, sym, ◌∙◌, ap, ap₂, ℕ, ◌+◌, ◌-◌, ◌*◌, ◌/◌, ◌%◌, ◌^◌, ◌<◌, ◌≤◌, true, false, not, ◌&&◌, eqb, ltb, List, [], ◌∷◌, length, get_or, inl, inr, eq-eqb, ne_eqb, lt-ltb, arith}
+use Rattle.std.proofs.Common.{◌≡◌, sym, ◌∙◌, ap, ap₂, ℕ, ◌+◌, ◌-◌, ◌*◌, ◌/◌, ◌%◌, ◌^◌, ◌<◌, ◌≤◌, false, ◌&&◌, eqb, List, [], ◌∷◌, length, get_or, inl, inr, eq-eqb, ne_eqb, lt-ltb, arith}
 use Rattle.std.specs.Int.{w64, trailing_zeros}
 use Rattle.std.specs.Int.RustNames.{bit_xor}
 use Rattle.std.proofs.lemmas.Bool.{cases_lt, cases_eq, cond-true, cond-false, le-ltb}
@@ -8,11 +8,10 @@ use Rattle.std.proofs.lemmas.Nat.Bits.{bit_at-pow_same, bit_at-pow_other}
 use Rattle.zx_model.specs.Bits.{xor}
 use Rattle.zx_model.proofs.BitLemmas.{xor-false}
 use Rattle.zx_bits.specs.Internal.Words.{digit}
-use Rattle.zx_bits.specs.Internal.Windows.{word_from, word_at, is_set, end_of, places_of, is_left, left_of}
-use Rattle.zx_bits.specs.declared.window.Window.{Window}
+use Rattle.zx_bits.specs.Internal.Windows.{word_from, is_left, left_of}
 use Rattle.zx_bits.proofs.Digits.{digit-xor, digit-zero}
 use Rattle.zx_bits.proofs.Places.{picked, picked-none, picked-first}
-use Rattle.zx_bits.proofs.WindowLemmas.{word_kept, word_before, word_past, lowest}
+use Rattle.zx_bits.proofs.WindowLemmas.{word_kept, lowest}
 
 in_word : (offset : ℕ) (words : List ℕ) (index rest place : ℕ) → place / 64 ≡ offset + index → is_left offset words index rest place ≡ digit rest (place % 64)
 in_word offset words index rest place e = cond-true (eqb (place / 64) (offset + index)) _ _ (eq-eqb _ _ e)
@@ -111,28 +110,3 @@ first_left offset words index rest one some fits within is =
             | inr g ↦ in_earlier offset words index (bit_xor rest one) place (omega arith) ∙ sym (in_earlier offset words index rest place (omega arith))
           ]
     ])
-
--- where the first word is read first, all places that are set are left
-pub all_left : (w : Window) (rest : ℕ) → rest ≡ word_at w w.offset → left_of w.offset w.words.items 0 rest ≡ places_of w
-all_left w rest is =
-    ap (λ f. picked f 0 (64 * end_of w)) (λ k p. same p k)
-  where
-    same : (place : ℕ) → is_left w.offset w.words.items 0 rest place ≡ is_set w place
-    same place =
-        elim (cases_lt w.offset (place / 64)) [
-          | inl l ↦ in_later w.offset w.words.items 0 rest place (omega arith)
-          | inr g ↦
-              elim (cases_eq (place / 64) w.offset) [
-                | inl e ↦ in_word w.offset w.words.items 0 rest place (omega (arith, e)) ∙ ap (λ n. digit n (place % 64)) (is ∙ ap (word_at w) (sym e))
-                | inr apart ↦
-                    in_earlier w.offset w.words.items 0 rest place (omega arith)
-                    ∙ sym (ap (λ n. digit n (place % 64)) (word_before w (place / 64) (omega arith)) ∙ digit-zero (place % 64))
-              ]
-        ]
-
-pub first_within : (w : Window) (rest : ℕ) → rest ≡ word_at w w.offset → 0 < rest → 0 < length w.words.items
-first_within w rest is some =
-    elim (cases_lt 0 (length w.words.items)) [
-      | inl l ↦ l
-      | inr g ↦ absurd (let none = word_past w w.offset (omega arith) in omega (arith, is, none, some))
-    ]

@@ -502,17 +502,6 @@ same_by_items a b at items place =
 
 -- ---- words behind which all are 0
 
--- what the first words tell is what all tell
-pub words_cut : (w : Window) (cut : Window) (count : ℕ) → cut.offset ≡ w.offset → cut.words.items ≡ take count w.words.items →
-    ((i : ℕ) → count ≤ i → get_or w.words.items i 0 ≡ 0) → (number : ℕ) → word_at cut number ≡ word_at w number
-words_cut w cut count at items zeros number =
-    ap₂ (λ offset (l : List ℕ). word_from offset l number) at items
-    ∙ ap (λ n. if ltb number w.offset then 0 else n)
-    (elim (cases_lt (number - w.offset) count) [
-      | inl l ↦ get_or-take count w.words.items (number - w.offset) 0 l
-      | inr g ↦ get_or_past (take count w.words.items) (number - w.offset) 0 (omega (arith, length-take count w.words.items)) ∙ sym (zeros (number - w.offset) g)
-    ])
-
 pub none_in_zeros : (w : Window) → ((i : ℕ) → 0 ≤ i → get_or w.words.items i 0 ≡ 0) → (place : ℕ) → is_set w place ≡ false
 none_in_zeros w zeros place =
     unset_by_word w place

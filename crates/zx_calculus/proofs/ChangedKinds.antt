@@ -1,13 +1,11 @@
 -- Planes and phases changed vertex by vertex.
-use Rattle.std.proofs.Common.{◌≡◌, refl, sym, ◌∙◌, ap, ap₂, subst, ℕ, Bool, true, false, cond, ltb, ne_eqb, List, [], ◌∷◌, filter}
+use Rattle.std.proofs.Common.{◌≡◌, refl, sym, ◌∙◌, ap, ap₂, subst, ℕ, true, cond, ltb, ne_eqb, List, [], ◌∷◌}
 use Rattle.zx_model.specs.Bits.{member}
-use Rattle.zx_calculus.specs.Graph.{Kind, Vertex, Graph, ids, joined, kind_of, neighbours, with_kinds, insert_vertex, Distinct, IsVertex, OrderedEdges}
+use Rattle.zx_calculus.specs.Graph.{Kind, Vertex, Graph, ids, kind_of, with_kinds, insert_vertex, Distinct, IsVertex, OrderedEdges}
 use Rattle.zx_calculus.specs.Edits.{KeepsEnds}
-use Rattle.zx_calculus.specs.Turns.{quarter_turned, half_turned}
 use Rattle.zx_calculus.proofs.Ids.{by_test, eqb-self, member-here, member-there, apart_of_member}
-use Rattle.zx_calculus.proofs.StepIdentities.{quarter_turned-quarter_turned}
 use Rattle.zx_calculus.proofs.Vertices.{ids-with_kinds, with_kinds_same}
-use Rattle.zx_calculus.specs.Internal.ChangedKinds.{changed_in, with_changed}
+use Rattle.zx_calculus.specs.Internal.ChangedKinds.{with_changed}
 
 pub with_kinds-with_kinds : (f g : ℕ → Kind → Kind) (vs : List Vertex) →
     with_kinds f (with_kinds g vs) ≡ with_kinds (λ p k. f p (g p k)) vs
@@ -48,24 +46,6 @@ changed_twice f g all h same =
     ap (λ vs. record h { vertices = vs })
     (with_kinds-with_kinds f g h.vertices ∙ with_kinds_same (λ p k. f p (g p k)) all h.vertices (λ p k t. same p k))
 
--- neighbours and vertices stay
-pub turned_neighbours : (f : ℕ → Kind → Kind) (g h : Graph) (u : ℕ) → h ≡ with_changed f g →
-    neighbours h u ≡ neighbours g u
-turned_neighbours f g h u e =
-    ap (λ l. neighbours l u) e ∙ ap (filter (joined g.edges u)) (ids-with_kinds f g.vertices)
-
 pub turned_live : (f : ℕ → Kind → Kind) (g h : Graph) (p : ℕ) → h ≡ with_changed f g → IsVertex g p → IsVertex h p
 turned_live f g h p e there = ap (λ l. member p (ids l.vertices)) e ∙ ap (member p) (ids-with_kinds f g.vertices)
     ∙ there
-
-pub turned_twice : (near : List ℕ) (g : Graph) →
-    with_changed (changed_in near quarter_turned) (with_changed (changed_in near quarter_turned) g)
-    ≡ with_changed (changed_in near half_turned) g
-turned_twice near g =
-    changed_twice (changed_in near quarter_turned) (changed_in near quarter_turned) (changed_in near half_turned) g
-    (λ p k. at k (member p near))
-  where
-    at : (k : Kind) (b : Bool) → cond b (quarter_turned (cond b (quarter_turned k) k)) (cond b (quarter_turned k) k)
-        ≡ cond b (half_turned k) k
-    at k true = quarter_turned-quarter_turned k
-    at k false = refl

@@ -9,7 +9,7 @@ use Rattle.zx_calculus.proofs.Edges.{joined_comm}
 use Rattle.zx_calculus.proofs.Forms.{ids-without}
 use Rattle.zx_calculus.proofs.Splitting.{joined-self, joined-absent, no_loop}
 use Rattle.zx_calculus.proofs.Kept.{in_order-removed}
-use Rattle.zx_calculus.proofs.EdgeLists.{OrderedEdges-edges_of, edges_ext}
+use Rattle.zx_calculus.proofs.EdgeLists.{OrderedEdges-edges_of}
 use Rattle.zx_calculus.proofs.Splits.{is_pair_comm, is_pair-self}
 use Rattle.zx_calculus.proofs.Programs.{edges_full, removal_edges}
 
@@ -57,9 +57,3 @@ removal_is_removal g u w =
   where
     rising : in_order ltb (ids (without u g.vertices)) ≡ true
     rising = ap (in_order ltb) (ids-without u g.vertices) ∙ in_order-removed u (ids g.vertices) w.vertices_rising
-
--- there is one such graph
-pub toggle_unique : (g : Graph) (u v : ℕ) (h k : Graph) → IsToggle g u v h → IsToggle g u v k → h ≡ k
-toggle_unique g u v h k c d =
-    let edges = edges_ext h.edges k.edges c.frame.ordered.lower_first d.frame.ordered.lower_first c.frame.ordered.rising d.frame.ordered.rising (λ p q n. c.edges p q ∙ sym (d.edges p q)) in
-    λ j. record { vertices = (c.vertices ∙ sym d.vertices) j; edges = edges j; inputs = (c.frame.inputs ∙ sym d.frame.inputs) j; outputs = (c.frame.outputs ∙ sym d.frame.outputs) j }

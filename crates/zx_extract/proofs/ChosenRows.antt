@@ -1,6 +1,6 @@
 -- Rows of a set alone: their sums, and a least part of them.
-use Rattle.std.proofs.Common.{◌≡◌, refl, sym, ◌∙◌, ap, ap₂, subst, inl, inr, ℕ, suc, ◌+◌, ◌<◌, ◌≤◌, Bool, true, false, ◌&&◌, if◌then◌else◌, eqb, ltb, List, [], ◌∷◌, ◌++◌, length, get_or, filter, true≢false, arith}
-use Rattle.std.proofs.lemmas.List.{get_or_append_left, get_or_push, length-append}
+use Rattle.std.proofs.Common.{◌≡◌, refl, sym, ◌∙◌, ap, ap₂, inl, inr, ℕ, suc, ◌+◌, ◌<◌, ◌≤◌, Bool, true, false, ◌&&◌, if◌then◌else◌, eqb, ltb, List, [], ◌∷◌, ◌++◌, length, get_or, filter, true≢false, arith}
+use Rattle.std.proofs.lemmas.List.{get_or_push}
 use Rattle.std.proofs.Math.Seq.{set-append_seam}
 use Rattle.std.proofs.lemmas.List.Sums.{length-filter}
 use Rattle.std.proofs.lemmas.Bool.{cases_lt, cases_eq, lt-ltb, le-ltb, eq-eqb, ne_eqb}
@@ -116,20 +116,6 @@ module _ (m only : BitMatrix) (kept : List Bool) (size : length kept ≡ length 
     }
 
 -- ---- the rows of a set, one by one
-
-pub one_more_row : (m only : BitMatrix) (set row : List Bool) (n : ℕ) → HasOnly m set n only → row ≡ (if bit set n then row_at m n else zeros m.columns) →
-    HasOnly m set (n + 1) (record only { rows = only.rows ++ row ∷ [] })
-one_more_row m only set row n is e = record {
-  columns = is.columns;
-  height = length-append only.rows (row ∷ []) ∙ ap (λ k. k + 1) is.height;
-  rows = λ r lt. elim (cases_lt r n) [
-    | inl before ↦ get_or_append_left only.rows (row ∷ []) [] r (omega (arith, is.height)) ∙ is.rows r before
-    | inr after ↦
-        let here : r ≡ n = omega arith in
-        subst (λ k. get_or (only.rows ++ row ∷ []) k [] ≡ (if bit set k then row_at m k else zeros m.columns)) (sym here)
-        (get_or_push only.rows row [] n is.height ∙ e)
-  ];
-}
 
 -- ---- a row, bit by bit
 

@@ -32,10 +32,6 @@ told_comm true false x y e = refl
 told_comm false true x y e = refl
 told_comm false false x y e = refl
 
--- what is told where the same is
-told_alike : {a b x y e c d u v f : Bool} → a ≡ c → b ≡ d → x ≡ u → y ≡ v → e ≡ f → told a b x y e ≡ told c d u v f
-told_alike p q r s t = λ i. told (p i) (q i) (r i) (s i) (t i)
-
 -- ---- the edges of such a graph
 module _ (g : Graph) (rows : List VertexSet) where
   abbrev outs : List ℕ
@@ -411,15 +407,6 @@ module _ {g met : Graph} {rows : List VertexSet} (t : ℕ) {u v : ℕ} (wf : Wel
     }
 
 -- ---- meeting outputs
-pub met_nothing : (g : Graph) (rows : List VertexSet) (v : ℕ) → IsMet g rows v [] g
-met_nothing g rows v = record {
-  vertices = refl;
-  inputs = refl;
-  outputs_stay = refl;
-  others = λ p q _ _. refl;
-  own = λ w. refl;
-}
-
 module _ {g h : Graph} {rows : List VertexSet} {v : ℕ} {outputs : List ℕ} (met : IsMet g rows v outputs h) (w : ℕ) where
   one_more : (x : ℕ) → member x (outputs ++ w ∷ []) ≡ (member x outputs || eqb x w)
   one_more x = member-append x outputs (w ∷ []) ∙ ap (λ b. member x outputs || b) (is_in-one w x)

@@ -1,7 +1,7 @@
 -- The row of an output added to that of another one.
-use Rattle.std.proofs.Common.{◌≡◌, ◌≢◌, refl, sym, ◌∙◌, ap, ap₂, subst, ℕ, ◌&&◌, true, false, eqb, eqb-true, List, [], ◌∷◌}
+use Rattle.std.proofs.Common.{◌≡◌, ◌≢◌, refl, sym, ◌∙◌, ap, ap₂, subst, ℕ, ◌&&◌, false, eqb, List, [], ◌∷◌}
 use Rattle.zx_model.specs.Bits.{xor, member}
-use Rattle.zx_calculus.specs.Graph.{Graph, joined, end_vertices, IsVertex, WellFormed, plain}
+use Rattle.zx_calculus.specs.Graph.{Graph, joined, end_vertices}
 use Rattle.zx_calculus.specs.Toggles.{across, IsToggled}
 use Rattle.zx_calculus.proofs.Booleans.{and_comm}
 use Rattle.zx_calculus.proofs.Ids.{eqb_comm}
@@ -10,17 +10,9 @@ use Rattle.gflow_laws.specs.Outputs.{row_added_table}
 use Rattle.gflow_laws.proofs.Lists.{is_in-one}
 use Rattle.zx_gates.specs.declared.gate.Gate.TheVariants.{Cx}
 use Rattle.circuit_laws.specs.Peeling.{HasPlainOutput}
-use Rattle.circuit_laws.proofs.Places.{output_there}
 use Rattle.zx_extract.specs.Internal.Leading.{Remainder, IsReady, IsFrontier}
 use Rattle.zx_extract.specs.Internal.Steps.{IsRowAdded}
 use Rattle.zx_extract.proofs.Places.{one_output}
-
--- the set of an output's vertex has live ones
-pub one_live : (g : Graph) (t v : ℕ) (one : List ℕ) → WellFormed g → HasPlainOutput g t v → one ≡ v ∷ [] →
-    (p : ℕ) → member p one ≡ true → IsVertex g p
-one_live g t v one wf at_t is p there =
-    subst (IsVertex g) (sym (eqb-true p v (sym (ap (member p) is ∙ is_in-one v p) ∙ there)))
-    (output_there g t (plain v) wf at_t)
 
 module _ (s : Remainder) (c t u v : ℕ) (r : IsReady s) (f : IsFrontier s.graph) (at_c : HasPlainOutput s.graph c u)
     (at_t : HasPlainOutput s.graph t v) (n : c ≢ t) where

@@ -1,5 +1,5 @@
 -- Maps of circuits with gates put in.
-use Rattle.std.proofs.Common.{◌≡◌, ℕ, List, [], ◌++◌, take, drop, refl, sym, subst, arith}
+use Rattle.std.proofs.Common.{◌≡◌, ℕ, List, [], ◌++◌, take, drop, sym, subst, arith}
 use Rattle.std.specs.List.{All}
 use Rattle.std.proofs.lemmas.List.{take-append-drop}
 use Rattle.zx_model.specs.Scalar.{IsScaled, IsWithin, one_scalar, quotient_of_scalars, product_of_scalars}
@@ -35,9 +35,6 @@ inserted_scaled circuit made insertion s fits same is scalar =
     (subst (λ n. All (IsGateOn n) insertion.frame.gates) fits.frame fits.frame_gates.on_qubits)
     (subst (λ n. AreScaled n insertion.inner.gates one_scalar []) fits.inner same)))
 
-pub unchanged : (made : ScaledCircuit) → IsRescaled made made
-unchanged made = record { qubits = refl; map = λ f p. p }
-
 pub one_more : (made : ScaledCircuit) (new : Circuit) (s t : Scalar) → new.qubits ≡ made.gates.qubits → AreScaled made.gates.qubits made.gates.gates s new.gates
     → t ≡ product_of_scalars made.scalar s → IsRescaled made (record { gates = new; scalar = t })
 one_more made new s t qubits scaled product = record {
@@ -46,12 +43,6 @@ one_more made new s t qubits scaled product = record {
       subst (λ u. IsScaled made.gates.qubits made.gates.qubits f u (amp new.gates)) (sym product)
       (scaled_trans made.gates.qubits made.gates.qubits f (amp made.gates.gates) (amp new.gates) made.scalar s p scaled);
 }
-
-pub rescaled : (circuit : Circuit) (old new : ScaledCircuit) → IsRescaled old new → old.gates.qubits ≡ circuit.qubits
-    → AreScaled circuit.qubits circuit.gates old.scalar old.gates.gates → AreScaled circuit.qubits circuit.gates new.scalar new.gates.gates
-rescaled circuit old new is qubits scaled =
-    subst (λ n. IsScaled n n (amp circuit.gates) new.scalar (amp new.gates.gates)) qubits
-    (is.map (amp circuit.gates) (subst (λ n. IsScaled n n (amp circuit.gates) old.scalar (amp old.gates.gates)) (sym qubits) scaled))
 
 pub started : (circuit copy : Circuit) (s : Scalar) → copy ≡ circuit → s ≡ one_scalar → AreScaled circuit.qubits circuit.gates s copy.gates
 started circuit copy s same one =

@@ -12,7 +12,7 @@ use Rattle.zx_model.proofs.BitLemmas.{expand, sum_of_bits}
 use Rattle.zx_gates.specs.Circuit.{IsGateOn}
 use Rattle.zx_gates.specs.declared.gate.Gate.{Gate}
 use Rattle.zx_gates.specs.declared.gate.Gate.TheVariants.{Cx, Not}
-use Rattle.zx_identities.specs.BasisStates.{moved, turned, moved_by, turned_by}
+use Rattle.zx_identities.specs.BasisStates.{moved, moved_by, turned_by}
 use Rattle.zx_identities.proofs.Agreeing.{turned_below}
 use Rattle.zx_identities.specs.declared.parities.Term.{Term}
 use Rattle.zx_identities.specs.Internal.Parities.{lowest, picked, value, state, term_phase, phase_of, controlled_phase, units_from, IsReading, IsRead}
@@ -244,21 +244,6 @@ read-first n all parities terms units none = record {
   where
     small : (k : ℕ) → k < turn → (0 + k) % turn ≡ k
     small k below = omega arith
-
-pub read-next : (n : ℕ) (all left : List Gate) (gate : Gate) (ps qs : List ℕ) (terms more : List Term) → IsRead n all (gate ∷ left) ps terms → length qs ≡ length ps
-    → ((x : List Bool) → state qs x ≡ moved gate (state ps x))
-    → ((x : List Bool) → phase_of more x % turn ≡ (phase_of terms x + turned gate (state ps x)) % turn) → IsRead n all left qs more
-read-next n all left gate ps qs terms more read lengths states phases = record {
-  len = lengths ∙ read.len;
-  moves = λ x l. ap (moved_by left) (states x) ∙ read.moves x l;
-  turns = λ x l.
-      ap (λ z. (phase_of more x + turned_by left z) % turn) (states x)
-      ∙ regroup (phase_of more x) (phase_of terms x) (turned gate (state ps x)) (turned_by left (moved gate (state ps x))) (phases x)
-      ∙ read.turns x l;
-}
-  where
-    regroup : (a b t u : ℕ) → a % turn ≡ (b + t) % turn → (a + u) % turn ≡ (b + (t + u) % turn) % turn
-    regroup a b t u e = omega arith
 
 pub read-end : (n : ℕ) (all left : List Gate) (ps : List ℕ) (terms : List Term) → IsRead n all left ps terms → left ≡ [] → ps ≡ units_from (length ps) 0 → IsReading n all terms
 read-end n all left ps terms read none units x l = (

@@ -1,14 +1,10 @@
 -- Bits form a field: the sum is `xor`, the product `&&`.
-use Rattle.std.proofs.Common.{◌≡◌, Bool, true, false, not, ◌&&◌, ℕ, zero, suc, ◌+◌, ◌%◌, ◌<◌, eqb, refl, arith}
+use Rattle.std.proofs.Common.{◌≡◌, Bool, true, false, ◌&&◌, ℕ, zero, suc, ◌+◌, ◌%◌, ◌<◌, eqb, refl, arith}
 use Rattle.zx_model.specs.Bits.{xor}
 
 pub xor-false : (a : Bool) → xor a false ≡ a
 xor-false false = refl
 xor-false true = refl
-
-pub xor-true : (a : Bool) → xor a true ≡ not a
-xor-true false = refl
-xor-true true = refl
 
 pub false-xor : (a : Bool) → xor false a ≡ a
 false-xor a = refl

@@ -21,9 +21,6 @@ pub root_power-suc : (k : ℕ) → root_power (suc k) ≡ mul sixteenth_root (ro
 unfolding root_power
 root_power-suc k = refl
 
-pub root_power-one : root_power 1 ≡ sixteenth_root
-root_power-one = root_power-suc 0 ∙ ap (mul sixteenth_root) root_power-zero ∙ Ring.mul-one sixteenth_root
-
 pub root_power-add : (j k : ℕ) → root_power (j + k) ≡ mul (root_power j) (root_power k)
 root_power-add nought k = ap root_power (zero-add k) ∙ sym (one-mul (root_power k)) ∙ ap (λ x. mul x (root_power k)) (sym root_power-zero)
 root_power-add (suc j) k =

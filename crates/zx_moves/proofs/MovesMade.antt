@@ -1,7 +1,7 @@
 -- The steps of a move, done one after the other, and moves one after the other.
 use Rattle.std.proofs.Common.{◌≡◌, refl, sym, ◌∙◌, ap, subst, ℕ, suc, ◌+◌, ◌*◌, ◌<◌, ◌≤◌, true, List, [], ◌∷◌, ◌++◌, length, map, take, drop, get_or, append_assoc, length-append, add-zero, drop-cons, arith}
 use Rattle.std.proofs.Math.Seq.{take-suc}
-use Rattle.std.proofs.lemmas.List.{append-nil, length-map, map-append, take_all}
+use Rattle.std.proofs.lemmas.List.{append-nil, length-map, map-append}
 use Rattle.zx_calculus.specs.Graph.{Graph, WellFormed}
 use Rattle.zx_calculus.specs.Steps.{allowed, IsStep, IsRun}
 use Rattle.gflow_laws.specs.Flow.{Correction, IsFlow}
@@ -11,7 +11,7 @@ use Rattle.zx_moves.specs.declared.moves.Move.{Move}
 use Rattle.graph_rewrites.specs.declared.step.Step.{Step}
 use Rattle.graph_rewrites.specs.Steps.{step_named}
 use Rattle.zx_moves.specs.Search.{AppliesAt, IsOfFirstKind}
-use Rattle.zx_moves.specs.Moving.{steps_of, AreMoves, most_moves, GainsMoves, GainsRun}
+use Rattle.zx_moves.specs.Moving.{AreMoves, most_moves, GainsMoves, GainsRun}
 use Rattle.zx_moves.specs.Internal.Planning.{AreAllowed, GainsMove}
 use Rattle.zx_moves.proofs.MoveRuns.{IsRun-append, AreMoves-snoc, AreMoves-run, length-AreMoves, ends-run}
 use Rattle.zx_moves.proofs.MoveCounts.{AreMoves-few}
@@ -52,18 +52,6 @@ next_done {g} {k} {h} {steps} {before} {after} {more} {i} step way within is don
       left = (next_left steps i k step way.left within is).1 h done;
       trace = adds ∙ ap (λ (s : List Step). s ++ step ∷ []) way.trace
           ∙ append_assoc before (take i steps) (step ∷ []) ∙ ap (λ (s : List Step). before ++ s) (sym longer);
-    }
-
--- all steps of a move are done
-pub all_done : {g k : Graph} {m : Move} {steps before after : List Step} {i : ℕ} → map step_named steps ≡ steps_of g m →
-    IsUnderWay g steps i k before after → length steps ≤ i → GainsMove g m k before after
-all_done {g} {k} {m} {steps} {before} {after} {i} planned way all =
-    let whole : take i steps ≡ steps = take_all i steps all in
-    record {
-      gained = steps;
-      trace = way.trace ∙ ap (λ (s : List Step). before ++ s) whole;
-      planned = planned;
-      run = subst (λ s. IsRun g s k) (ap (map step_named) whole ∙ planned) way.run;
     }
 
 pub gains_none : (g : Graph) (before : List Step) (start : ℕ) → GainsMoves g g before before start start

@@ -1,8 +1,8 @@
 -- Circuits that are made of others, one after the other.
-use Rattle.std.proofs.Common.{◌≡◌, ◌≤◌, ℕ, sym, ap, ◌∙◌, subst, arith}
+use Rattle.std.proofs.Common.{◌≡◌, ℕ, sym, ap, ◌∙◌, subst, arith}
 use Rattle.zx_model.specs.Scalar.{IsScaled, IsWithin, one_scalar, product_of_scalars}
 use Rattle.zx_model.specs.declared.scalar.Scalar.{Scalar}
-use Rattle.zx_model.proofs.Scalars.{scaled_refl, scaled_trans, within_more}
+use Rattle.zx_model.proofs.Scalars.{scaled_refl, scaled_trans}
 use Rattle.zx_gates.specs.Circuit.{Circuit}
 use Rattle.zx_gates.specs.Maps.{amp}
 use Rattle.zx_gates.specs.Passes.{Preserves}
@@ -26,14 +26,6 @@ made-trans k most read middle made s a first second product small = record {
 pub made_by_pass : (k : ℕ) (read made : Circuit) (s : Scalar) → Preserves k read made s
     → IsMadeOf k read (record { gates = made; scalar = s })
 made_by_pass k read made s kept = record { qubits = kept.qubits; scaled = kept.scaled; small = kept.small }
-
--- a larger scalar is allowed
-pub made-more : (k most : ℕ) (read : Circuit) (made : ScaledCircuit) → IsMadeOf k read made → k ≤ most → IsMadeOf most read made
-made-more k most read made is fits = record {
-  qubits = is.qubits;
-  scaled = is.scaled;
-  small = within_more k most made.scalar is.small fits;
-}
 
 -- the circuit itself
 pub made_of_itself : (most : ℕ) (read copy : Circuit) (s : Scalar) → copy ≡ read → s ≡ one_scalar

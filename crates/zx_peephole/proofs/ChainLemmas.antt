@@ -140,20 +140,6 @@ module _ (On : ℕ → Type 0) (link : ℕ → ℕ) (last next p : ℕ) (on : On
           let l : IsLast On k (p + 1) = subst (IsLast On k) leads (chain.links k within at_k) in
           (subst (IsLast On next) e chain.last_of).behind k (omega (arith, l.within)) within at_k
 
-  -- it is the last of the chain
-  pub chain-without_last : (linked : ℕ → ℕ) → last ≡ p + 1 → ((j : ℕ) → On j → linked j ≡ link j)
-      → IsChain (Without p On) linked (link p) next
-  chain-without_last linked leads same = record {
-    last_of = last-out On p next (link p) all before_it;
-    links = λ i below is. subst (IsLast (Without p On) i) (sym (same i is.0))
-        (last-other On p i (link i) (λ e.
-        let l : IsLast On i (p + 1) = subst (IsLast On i) e (chain.links i below is.0) in
-        all.behind i (omega (arith, l.within)) below is.0) (chain.links i below is.0));
-  }
-    where
-      all : IsLast On next (p + 1)
-      all = subst (IsLast On next) leads chain.last_of
-
 -- ---- links that change
 pub on_second : (q : ℕ) (g : Gate) → is_on q g ≡ true → eqb (first_qubit g) q ≡ false → second_qubit g ≡ q
 on_second q (H p) on other = absurd (both_ways (eqb p q) other on)

@@ -1,12 +1,11 @@
 -- Places on more qubits, and gates on them.
-use Rattle.std.proofs.Common.{◌≡◌, ◌≤◌, ◌<◌, ℕ, Bool, true, false, ◌||◌, eqb, List, [], ◌∷◌, ◌++◌, length, get_or, refl, sym, subst, arith}
+use Rattle.std.proofs.Common.{◌≡◌, ◌<◌, ℕ, Bool, true, false, ◌||◌, eqb, List, [], ◌∷◌, ◌++◌, length, get_or, refl, sym, subst, arith}
 use Rattle.std.specs.List.{All, AllByRecursion, IsDistinct, list_any}
 use Rattle.std.proofs.lemmas.Bool.{both_ways}
 use Rattle.std.proofs.lemmas.List.Elements.{All-append, All-cons, All-get_or, All-nil}
 use Rattle.std.proofs.lemmas.Map.Keys.{IsDistinct-cons, IsDistinct-head, IsDistinct-tail}
 use Rattle.zx_gates.specs.Circuit.{IsGateOn, IsOnQubits}
 use Rattle.zx_gates.specs.declared.gate.Gate.{Gate}
-use Rattle.zx_gates.specs.declared.gate.Gate.TheVariants.{H, Phase, Cz, Cx, Not}
 use Rattle.piece_laws.specs.Places.{ArePlaces, placed_gate}
 use Rattle.piece_laws.proofs.Placements.{placed_gate_on}
 
@@ -36,13 +35,6 @@ places_more n places q are none below = record {
 }
 
 -- ---- a gate on more qubits
-pub on_more : (n m : ℕ) (gate : Gate) → n ≤ m → IsOnQubits n gate → IsOnQubits m gate
-on_more n m (H q) more on = omega arith
-on_more n m (Phase q k) more on = let below : q < n = on.0 in (omega arith, on.1)
-on_more n m (Cz p q) more on = let first : p < n = on.0 in let second : q < n = on.1 in (omega arith, omega arith, on.2)
-on_more n m (Cx p q) more on = let first : p < n = on.0 in let second : q < n = on.1 in (omega arith, omega arith, on.2)
-on_more n m (Not q) more on = omega arith
-
 pub no_places : (n : ℕ) → ArePlaces n []
 unfolding IsDistinct
 no_places n = record { distinct = tt; below = All-nil (λ p. p < n) }

@@ -1,15 +1,12 @@
 -- A walk goes on by a gate.
-use Rattle.std.proofs.Common.{◌≡◌, ◌≢◌, ◌<◌, ◌+◌, inl, inr, ℕ, Bool, true, false, cond, ◌||◌, not, eqb, List, [], ◌∷◌, ◌++◌, length, set, get_or, refl, sym, ap, ap₂, ◌∙◌, subst, arith, OnOk}
+use Rattle.std.proofs.Common.{◌≡◌, ◌<◌, ◌+◌, inl, inr, ℕ, Bool, true, false, ◌||◌, not, eqb, List, [], ◌∷◌, ◌++◌, length, get_or, refl, sym, ap, ◌∙◌, subst, arith, OnOk}
 use Rattle.std.specs.Prelude.{Result, Ok, Err}
 use Rattle.std.specs.List.{list_all}
-use Rattle.std.proofs.lemmas.Bool.{cases_eq, eqb-true, or_cases, both_ways, ne_eqb}
-use Rattle.std.proofs.lemmas.List.{get_or_default, get_or-set_same, get_or-set_other, length-append, length-set}
-use Rattle.std.proofs.lemmas.List.Elements.{filter-append}
-use Rattle.zx_gates.specs.Circuit.{IsOnQubits}
+use Rattle.std.proofs.lemmas.Bool.{eqb-true, or_cases, both_ways}
+use Rattle.std.proofs.lemmas.List.{get_or_default, length-append}
 use Rattle.zx_gates.specs.declared.gate.Gate.{Gate}
 use Rattle.zx_gates.specs.declared.gate.Gate.TheVariants.{H, Phase, Cz, Cx, Not}
 use Rattle.zx_peephole.specs.Commuting.{is_on, are_apart}
-use Rattle.piece_laws.specs.Reordering.{gates_on}
 use Rattle.piece_laws.proofs.Reorderings.{apart_all, taken, passed_over}
 use Rattle.zx_peephole.specs.Internal.Chains.{first_qubit, second_qubit}
 use Rattle.zx_pieces.specs.Internal.Walking.{IsBlocking, AreWalked}
@@ -25,13 +22,6 @@ on_qubits (Cz p r) q = refl
 on_qubits (Cx p r) q = refl
 on_qubits (Not p) q = or_same (eqb p q)
 
-pub qubits_within : (n : ℕ) (gate : Gate) → IsOnQubits n gate → (first_qubit gate < n) × (second_qubit gate < n)
-qubits_within n (H p) on = (on, on)
-qubits_within n (Phase p k) on = (on.0, on.0)
-qubits_within n (Cz p r) on = (on.0, on.1)
-qubits_within n (Cx p r) on = (on.0, on.1)
-qubits_within n (Not p) on = (on, on)
-
 -- a gate on qubits that aren't blocked is apart from those that were passed over
 pub free_all : (blocked : List Bool) (passed : List Gate) (gate : Gate) → get_or blocked (first_qubit gate) true ≡ false
     → get_or blocked (second_qubit gate) true ≡ false → IsBlocking blocked passed → list_all (are_apart gate) passed ≡ true
@@ -44,37 +34,6 @@ free_all blocked passed gate first second blocking =
           | inl e ↦ subst (λ p. get_or blocked p true ≡ false) (eqb-true (first_qubit gate) q e) first
           | inr e ↦ subst (λ p. get_or blocked p true ≡ false) (eqb-true (second_qubit gate) q e) second
         ]
-
--- where a flag isn't set, it isn't the one that was set last
-unset : (xs : List Bool) (i q : ℕ) → i < length xs → get_or (set xs i true) q true ≡ false → (i ≢ q) × (get_or xs q true ≡ false)
-unset xs i q within off =
-    elim (cases_eq q i) [
-      | inl same ↦
-          absurd (both_ways (get_or (set xs i true) i true) (subst (λ p. get_or (set xs i true) p true ≡ false) same off) (get_or-set_same xs i true true within))
-      | inr other ↦ (λ e. other (sym e), sym (get_or-set_other xs i q true true other) ∙ off)
-    ]
-
--- the qubits of a gate that is passed over are blocked
-pub blocking_more : (blocked : List Bool) (passed : List Gate) (gate : Gate) → IsOnQubits (length blocked) gate → IsBlocking blocked passed
-    → IsBlocking (set (set blocked (first_qubit gate) true) (second_qubit gate) true) (passed ++ gate ∷ [])
-blocking_more blocked passed gate on blocking q off =
-    let f = first_qubit gate in
-    let s = second_qubit gate in
-    let low = qubits_within (length blocked) gate on in
-    let second = unset (set blocked f true) s q (subst (λ n. s < n) (sym (length-set blocked f true)) low.1) off in
-    let first = unset blocked f q low.0 second.1 in
-    filter-append (is_on q) passed (gate ∷ [])
-    ∙ ap₂ (λ xs b. xs ++ cond b (gate ∷ []) []) (blocking q first.1)
-    (on_qubits gate q ∙ ap₂ (λ a b. a || b) (ne_eqb f q first.0) (ne_eqb s q second.0))
-
--- no gate is seen yet
-pub nothing_walked : (piece passed : List Gate) (blocked : List Bool) → piece ≡ [] → passed ≡ [] → AreWalked [] piece passed blocked
-nothing_walked piece passed blocked none nor = record {
-  order = λ q. ap (gates_on q) (sym (ap₂ (λ s t. s ++ t) none nor));
-  blocking = λ q off. ap (gates_on q) nor;
-  first = λ e. nor;
-  some = λ h. absurd (omega arith);
-}
 
 longer : (xs : List Gate) (x : Gate) → 0 < length (xs ++ x ∷ [])
 longer xs x = let e : length (xs ++ x ∷ []) ≡ length xs + 1 = length-append xs (x ∷ []) in omega arith

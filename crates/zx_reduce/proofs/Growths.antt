@@ -1,7 +1,7 @@
 -- A graph while it grows: begun, after a step, and with a gate more.
 use Rattle.std.proofs.Common.{◌≡◌, refl, sym, ◌∙◌, ap, subst, ℕ, true, List, [], ◌∷◌, ◌++◌, append_assoc, add-one, take, get_or, ◌+◌, ◌<◌, ◌≤◌, length, arith}
 use Rattle.std.specs.List.{All}
-use Rattle.std.specs.Prelude.{Result, Ok, Err, IfOk, OnOk, None}
+use Rattle.std.specs.Prelude.{Result, Ok, Err, IfOk, None}
 use Rattle.std.proofs.lemmas.List.{flat_map_more}
 use Rattle.std.proofs.Math.Seq.{take-suc}
 use Rattle.std.proofs.lemmas.List.Elements.{All-cons, All-append}
@@ -53,11 +53,6 @@ grown_wires n p is ordered one takes steps none = record {
   few = omega (arith, steps);
   phases = subst (MayBeHeld none_held (wires n) p.ordered.graph (subst (ComesFrom n []) (sym is) (grown_begin n)).reaches) (sym none) refl;
 }
-
--- whatever a call answers
-pub on_any : {T E P : Type 0} (r : Result T E) → P → OnOk r P
-on_any (Ok v) p = p
-on_any (Err e) p = tt
 
 -- clauses of an answer together
 pub ok_both : {T E : Type 0} {P Q S : T → Type 0} (r : Result T E) → IfOk r P → IfOk r Q → ((x : T) → P x → Q x → S x) → IfOk r S

@@ -6,7 +6,6 @@ use Rattle.zx_gates.specs.declared.elementary.Elementary.{Elementary}
 use Rattle.qasm_inline.specs.TextAnswers.{IsTextAnswer}
 use Rattle.qasm_inline.specs.declared.error.TextError.{TextError}
 use Rattle.qasm_inline.specs.declared.error.TextError.TheVariants as error
-use Rattle.qasm_scope.specs.declared.causes.Cause.{Cause}
 use Rattle.qasm_scope.specs.declared.causes.Cause.TheVariants as cause
 use Rattle.zx_run.specs.declared.status.Fault.{Fault}
 use Rattle.zx_run.specs.declared.status.Fault.TheVariants.{TooLong, BadByte, TooDeep, Syntax, Version, Include, Unsupported}
@@ -17,9 +16,9 @@ use Rattle.zx_run.specs.declared.status.Fault.TheVariants.{AfterMeasure, BitTwic
 use Rattle.zx_run.specs.declared.status.Status.{Status}
 use Rattle.zx_run.specs.declared.status.Status.TheVariants.{Done, Refused, Usage, ReadFault, WriteFault, NoMemory, No}
 use Rattle.zx_run.specs.Internal.ErrorAnswers.{answer_to_text_error}
-use Rattle.zx_run.specs.FirstFault.{most_bytes, fault_of, IsAccepted, IsFaultless, IsFirstFault}
+use Rattle.zx_run.specs.FirstFault.{most_bytes, IsAccepted, IsFaultless, IsFirstFault}
 use Rattle.zx_run.specs.TwoTexts.{parting_line, second_place, IsParted, AreTexts, shifted_fault, IsFaultOfEither, IsFirstFaultOfTwo, AreAccepted}
-use Rattle.zx_run.specs.Internal.Refusals.{IsFaultFrom, IsRefusalFor, moved_answer, moved_error}
+use Rattle.zx_run.specs.Internal.Refusals.{IsFaultFrom, IsRefusalFor, moved_answer}
 use Rattle.zx_run.proofs.FaultLemmas.{one_first_fault, not_faultless, one_circuit, accepted_or_fault}
 use Rattle.zx_run.proofs.RefusalLemmas.{refused_by}
 use Rattle.zx_run.proofs.PartingLemmas.{same_texts, from_on, parted_or_not, AreSomeTexts}
@@ -55,35 +54,6 @@ moved_nowhere (BitTwice at) = ap BitTwice (from_start at)
 moved_nowhere (TooManyBits at) = ap TooManyBits (from_start at)
 moved_nowhere NotSquare = refl
 moved_nowhere NoSecond = refl
-
-moved_cause : (by at : ℕ) (what : Cause) → fault_of what (by + at) ≡ shifted_fault by (fault_of what at)
-moved_cause by at cause.Version = refl
-moved_cause by at cause.Include = refl
-moved_cause by at cause.Unsupported = refl
-moved_cause by at cause.Redeclared = refl
-moved_cause by at cause.EmptyRegister = refl
-moved_cause by at cause.TooManyQubits = refl
-moved_cause by at cause.Unknown = refl
-moved_cause by at cause.WrongCount = refl
-moved_cause by at cause.Index = refl
-moved_cause by at cause.Sizes = refl
-moved_cause by at cause.SameQubit = refl
-moved_cause by at cause.Divide = refl
-moved_cause by at cause.AngleTooLarge = refl
-moved_cause by at cause.NotSixteenthTurn = refl
-moved_cause by at cause.TooDeep = refl
-moved_cause by at cause.TooManyGates = refl
-moved_cause by at cause.SecondVersion = refl
-moved_cause by at cause.AfterMeasure = refl
-moved_cause by at cause.BitTwice = refl
-moved_cause by at cause.TooManyBits = refl
-
-pub answer_moved : (by : ℕ) (e : TextError) → answer_to_text_error (moved_error by e) ≡ moved_answer by (answer_to_text_error e)
-answer_moved by (error.BadByte at) = refl
-answer_moved by (error.TooDeep at) = refl
-answer_moved by (error.Syntax at) = refl
-answer_moved by (error.Wrong what at) = ap Refused (moved_cause by at what)
-answer_moved by error.NoMemory = refl
 
 moved_refusal : (by : ℕ) (text : List ℕ) (status : Status)
     → IsRefusalFor (IsFirstFault text) status → IsRefusalFor (IsFaultFrom by text) (moved_answer by status)

@@ -1,5 +1,5 @@
 -- Which ends meet, and what meetings come to at labels of some few vertices.
-use Rattle.std.proofs.Common.{◌≡◌, ◌≢◌, ◌⊎◌, inl, inr, refl, sym, ◌∙◌, ap, ap₂, ℕ, Bool, true, false, ◌&&◌, List, [], ◌∷◌, length, true≢false, arith}
+use Rattle.std.proofs.Common.{◌≡◌, ◌≢◌, ◌⊎◌, inl, inr, refl, sym, ◌∙◌, ap, ap₂, ℕ, Bool, true, false, ◌&&◌, List, [], ◌∷◌, true≢false, arith}
 use Rattle.std.specs.Prelude.{if◌then◌else◌}
 use Rattle.zx_model.specs.Bits.{xor, member}
 use Rattle.zx_model.specs.Constants.{two}
@@ -100,22 +100,6 @@ flipped i o (a ∷ ins) (b ∷ outs) (inr there) = inr (flipped i o ins outs the
 
 pub meets_output : (i o : End) (ins outs : List End) → Meet i o ins outs → member o.vertex (end_vertices outs) ≡ true
 meets_output i o ins outs m = meets_input o i outs ins (flipped i o ins outs m)
-
--- an end of one list meets one of the other
-pub input_meets : (v : ℕ) (ins outs : List End) → length ins ≡ length outs → member v (end_vertices ins) ≡ true →
-    (i : End) × (o : End) × (i.vertex ≡ v) × Meet i o ins outs
-input_meets v [] outs e there = absurd (true≢false (sym there))
-input_meets v (a ∷ ins) [] e there = absurd (omega arith)
-input_meets v (a ∷ ins) (b ∷ outs) e there =
-    by_equal v a.vertex
-    (λ t s. (a, b, sym s, inl (refl, refl)))
-    (λ f n. let later = input_meets v ins outs (omega arith) (rw f at there) in (later.0, later.1, later.2, inr later.3))
-
-pub output_meets : (v : ℕ) (ins outs : List End) → length ins ≡ length outs → member v (end_vertices outs) ≡ true →
-    (i : End) × (o : End) × (o.vertex ≡ v) × Meet i o ins outs
-output_meets v ins outs e there =
-    let it = input_meets v outs ins (sym e) there in
-    (it.1, it.0, it.2, flipped it.0 it.1 outs ins it.3)
 
 -- who meets at one vertex is one
 pub one_input : (i o j p : End) (ins outs : List End) → Distinct (end_vertices ins) → Meet i o ins outs → Meet j p ins outs → i.vertex ≡ j.vertex → (i ≡ j) × (o ≡ p)

@@ -82,9 +82,6 @@ whole_phases f [] = refl
 whole_phases f (v ∷ vs) = let e : v.kind.phase % 1 ≡ 0 = omega arith in both _ _ (ap (λ n. eqb n 0) e) (whole_phases f vs)
 
 -- ---- edges
-abbrev AreIn : List ℕ → List Edge → Type 0
-AreIn vs es = (list_all (λ e. member e.lower vs) es ≡ true) × (list_all (λ e. member e.higher vs) es ≡ true)
-
 keeps_before : (f : ℕ → ℕ) (all : List ℕ) → ((u v : ℕ) → member u all ≡ true → u < v → f u < f v) → (d e : Edge) → member d.lower all ≡ true → member d.higher all ≡ true
     → edge_before d e ≡ true → edge_before (edge_with f d) (edge_with f e) ≡ true
 keeps_before f all rises d e low high before = by_place (edge_before-true d e before)

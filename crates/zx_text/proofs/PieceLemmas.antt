@@ -1,10 +1,10 @@
 -- Texts cut at a separator, and numbers as they are spelled.
-use Rattle.std.proofs.Common.{◌≡◌, ◌≢◌, ℕ, ◌<◌, ◌≤◌, ◌^◌, suc, zero, Bool, true, false, eqb, ltb, ◌||◌, ◌&&◌, List, [], ◌∷◌, ◌++◌, length, take, map, get_or, refl, sym, ap, lt-ltb, ◌∙◌, ne_eqb, ltb-true, ltb-false, arith, Result, Ok, decimal}
+use Rattle.std.proofs.Common.{◌≡◌, ◌≢◌, ℕ, ◌<◌, ◌≤◌, ◌^◌, suc, zero, Bool, true, false, eqb, ltb, ◌||◌, ◌&&◌, List, [], ◌∷◌, ◌++◌, length, take, map, get_or, refl, sym, ap, ◌∙◌, ne_eqb, ltb-true, ltb-false, arith, Result, Ok, decimal}
 use Rattle.std.specs.List.{list_all}
 use Rattle.std.proofs.lemmas.Fmt.{parse-decimal}
 use Rattle.std.specs.Str.Parse.{ParsesUnsigned}
 use Rattle.zx_model.specs.Bits.{member}
-use Rattle.zx_calculus.proofs.Ids.{by_test, eqb-self, eqb_comm, or-left, or-right, and-left, and-right}
+use Rattle.zx_calculus.proofs.Ids.{by_test, eqb-self, eqb_comm, or-left, or-right}
 use Rattle.zx_text.specs.Pieces.{pieces, longer}
 use Rattle.zx_text.specs.Internal.SmallNumbers.{is_small}
 
@@ -83,11 +83,3 @@ pieces_some separator (b ∷ bs) =
     longer_some : (b : ℕ) (found : List (List ℕ)) → longer b found ≢ []
     longer_some b [] = λ e. cc
     longer_some b (piece ∷ others) = λ e. cc
-
-and-intro : (a b : Bool) → a ≡ true → b ≡ true → (a && b) ≡ true
-and-intro true b first second = second
-and-intro false b first second = absurd (cc)
-
-pub small_more : (numbers : List ℕ) (n : ℕ) → list_all is_small numbers ≡ true → n < 2 ^ 64 → list_all is_small (numbers ++ n ∷ []) ≡ true
-small_more [] n small lt = let here = lt-ltb n (2 ^ 64) lt in rw here refl
-small_more (m ∷ ms) n small lt = and-intro (is_small m) _ (and-left _ _ small) (small_more ms n (and-right _ _ small) lt)

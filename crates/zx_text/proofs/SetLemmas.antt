@@ -8,11 +8,10 @@ use Rattle.zx_calculus.specs.Graph.{Graph, Distinct, in_order, different, end_ve
 use Rattle.zx_calculus.proofs.Ids.{by_test, by_equal, eqb-self, eqb_comm, and-left, and-right, or-left, or-right, member-here, member-there, member-append, member-filter}
 use Rattle.zx_calculus.proofs.Kept.{both}
 use Rattle.gflow_laws.specs.Flow.{Correction, order_of, set_of, SameSets}
-use Rattle.gflow_laws.proofs.Tables.{order_of-with_sets, set_of-outside}
+use Rattle.gflow_laws.proofs.Tables.{set_of-outside}
 use Rattle.zx_calculus.proofs.Ids.{Distinct-different}
 use Rattle.zx_text.specs.Files.{non_outputs}
 use Rattle.zx_text.specs.Internal.Stepping.{Sets, no_sets, with_set, set_added}
-use Rattle.zx_text.specs.Internal.Parts.{AreInTable}
 use Rattle.zx_text.proofs.PartLemmas.{order-last}
 
 -- ---- the first numbers of a list, and the next
@@ -163,9 +162,6 @@ drop_next (y ∷ ys) zero x next = (omega arith, (ap (λ z. z ∷ []) (first nex
 drop_next (y ∷ ys) (suc i) x next =
     let rest = drop_next ys i x next in
     (omega (arith, rest.0), (ap (λ zs. y ∷ zs) rest.1.0, rest.1.1))
-
-pub still_there : (table : List Correction) (vs : List ℕ) (v : ℕ) (members : List ℕ) → AreInTable table vs → AreInTable (with_set v members table) vs
-still_there table vs v members there w inside = ap (member w) (order_of-with_sets _ table) ∙ there w inside
 
 pub next_inside : (xs : List ℕ) (i x : ℕ) → drop i xs ≡ x ∷ drop 1 (drop i xs) → member x xs ≡ true
 next_inside [] zero x next = absurd (cc)
