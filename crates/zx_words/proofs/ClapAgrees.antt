@@ -116,6 +116,11 @@ teleport_words rest =
     ∙ below (entered_fault a (Some (codes "teleport", rest))) (codes "teleport") (rows_after (alone_leaf (codes "teleport")).rules [] rest)
 
 -- ---- a first word that is no subcommand
+only_separator : (rest : List Text) → IsFault (fault_of zxopt_app (codes "--" ∷ rest))
+unfolding zxopt_app clap_on_literals
+only_separator [] = tt
+only_separator (next ∷ rest) = tt
+
 no_subcommand : (word : Text) (rest : List Text) → bytes_eq word (codes "opt") ≡ false
     → bytes_eq word (codes "gen") ≡ false → bytes_eq word (codes "reduce") ≡ false
     → bytes_eq word (codes "flow") ≡ false → bytes_eq word (codes "graph") ≡ false

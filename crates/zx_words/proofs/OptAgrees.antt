@@ -1,22 +1,23 @@
 -- The words of `opt`: as `clap` takes them, and as they are defined.
-use Rattle.std.proofs.Common.{◌≡◌, ◌∙◌, ◌++◌, Bool, true, false, List, [], ◌∷◌, Option, None, Some}
+use Rattle.std.proofs.Common.{◌≡◌, ◌∙◌, ◌&&◌, ◌++◌, Bool, true, false, List, [], ◌∷◌, Option, None, Some}
 use Rattle.std.proofs.Common.{refl, sym, ap, codes, map, option_and_then, if◌then◌else◌, subst, true≢false}
 use Rattle.std.proofs.lemmas.Bool.{or_parts}
-use Rattle.std.proofs.lemmas.List.{append-nil}
+use Rattle.std.proofs.lemmas.List.{append-nil, append_assoc, map-append}
 use Rattle.std.proofs.lemmas.Slice.Eq.{bytes_eq-Decides}
 use Rattle.std.specs.Str.{bytes_eq}
 use Rattle.clap.specs.Lexer.{long_of}
-use Rattle.clap.specs.Walk.{Held, Row, Rule, Text, Walk, arg_by_long, finished, nothing_held}
+use Rattle.clap.specs.Walk.{Held, Row, Rule, Text, Walk, arg_by_long, finished, has_row, nothing_held, used, walked}
 use Rattle.clap.specs.Simple.{Shape, built_leaf, inherited, new_app}
 use Rattle.clap.specs.Kinds.{or_else}
 use Rattle.clap.specs.Faults.{long_fault}
+use Rattle.clap.specs.declared.error.kind.ErrorKind.TheVariants.{ArgumentConflict}
 use Rattle.clap.proofs.OnLiterals.{clap_on_literals}
 use Rattle.zx_words.specs.declared.words.Command.{Command}
 use Rattle.zx_words.specs.declared.words.Command.TheVariants.{Optimise}
 use Rattle.zx_words.specs.Command.{are_flags, flag_words, has, is_separator, optimisation_of, without_end}
 use Rattle.zx_words.specs.CommandLine.{bare, command_by, has_flag, opt_app}
-use Rattle.zx_words.proofs.Flags.{behind, defaults_unset, flag_known, no_default_fault, rows_of}
-use Rattle.zx_words.proofs.Flags.{rule_of, word_of, words_of}
+use Rattle.zx_words.proofs.Flags.{behind, defaults_unset, flag_known, no_default_fault, once_more, row_known, rows_of}
+use Rattle.zx_words.proofs.Flags.{rule_of, twice, used_rows, word_of, words_of}
 use Rattle.zx_words.proofs.Levels.{IsFault, between, held, level, long_is, none_at, one_word, other_word, stray_turn, unless_fault}
 
 -- a subcommand as it is built
@@ -65,6 +66,53 @@ pub kept : (word : Text) (rest : List Text) → is_separator word ≡ false → 
 kept word [] e = rw e refl
 kept word (next ∷ rest) e = refl
 
+-- the flag has a fault where it was seen before
+abbrev IsTaken : Text → Type 0
+IsTaken name = (seen rest : List Text) → level opt_leaf (at seen false) (word_of name ∷ rest)
+    ≡ (if has_row name (rows_of seen) then None
+    else level opt_leaf (between (held (used (rule_of name) [] (rows_of seen)) None) 1 false) rest)
+
+conflict : (b : Bool) (o : Option (List Row))
+    → unless_fault (or_else (or_else (if b && true then ArgumentConflict ∷ [] else []) []) []) o ≡ (if b then None else o)
+conflict true o = refl
+conflict false o = refl
+
+best_taken : IsTaken (codes "best")
+unfolding clap_on_literals
+best_taken seen rest =
+    one_word opt_leaf (at seen false) (codes "--best") rest ∙ conflict (has_row (codes "best") (rows_of seen)) _
+
+report_taken : IsTaken (codes "report")
+unfolding clap_on_literals
+report_taken seen rest =
+    one_word opt_leaf (at seen false) (codes "--report") rest ∙ conflict (has_row (codes "report") (rows_of seen)) _
+
+scalar_taken : IsTaken (codes "scalar")
+unfolding clap_on_literals
+scalar_taken seen rest =
+    one_word opt_leaf (at seen false) (codes "--scalar") rest ∙ conflict (has_row (codes "scalar") (rows_of seen)) _
+
+one_flag : (name : Text) → IsTaken name → has (word_of name) flag_words ≡ true → is_separator (word_of name) ≡ false
+    → (rest : List Text) → IsReadBehind rest → IsReadBehind (word_of name ∷ rest)
+one_flag name taken is none rest more seen flags =
+    ap by_opt (taken seen rest) ∙ go (has_row name (rows_of seen)) refl
+    ∙ ap (λ words. optimisation_of (words_of seen ++ words)) (sym (kept (word_of name) rest none))
+  where
+    go : (b : Bool) → has_row name (rows_of seen) ≡ b
+        → by_opt (if b then None else level opt_leaf (between (held (used (rule_of name) [] (rows_of seen)) None) 1 false) rest)
+        ≡ optimisation_of (words_of seen ++ word_of name ∷ without_end rest)
+    go true old =
+        no_flags (words_of seen ++ word_of name ∷ without_end rest)
+        (twice (word_of name) (words_of seen) (without_end rest) (sym (row_known name seen) ∙ old))
+    go false new =
+        let words : words_of (seen ++ name ∷ []) ≡ words_of seen ++ word_of name ∷ [] = map-append word_of seen (name ∷ []) in
+        let still : are_flags (words_of (seen ++ name ∷ [])) ≡ true =
+        ap are_flags words ∙ once_more (word_of name) is (words_of seen) flags (sym (row_known name seen) ∙ new) in
+        ap (λ rows. by_opt (level opt_leaf (between (held rows None) 1 false) rest)) (used_rows name seen new)
+        ∙ more (seen ++ name ∷ []) still
+        ∙ ap (λ ws. optimisation_of (ws ++ without_end rest)) words
+        ∙ ap optimisation_of (append_assoc (words_of seen) (word_of name ∷ []) (without_end rest))
+
 -- ---- a word that is no flag
 no_long : (c : List Rule) (again : Bool) (h : Held) (word name : Text) (v : Option Text) → long_of word ≡ Some (name, v)
     → (flags : List Text) → has word (words_of flags) ≡ false
@@ -95,6 +143,13 @@ one_other word none no_separator rest seen flags =
     ap by_opt (one_word opt_leaf (at seen false) word rest ∙ none_at _ _ fault)
     ∙ stray seen (word ∷ without_end rest) no_flag
     ∙ ap (λ words. optimisation_of (words_of seen ++ words)) (sym (kept word rest no_separator))
+
+one_separator : (rest : List Text) → IsReadBehind (codes "--" ∷ rest)
+unfolding walked
+one_separator [] seen flags = ap by_opt (one_word opt_leaf (at seen false) (codes "--") []) ∙ at_end true seen flags
+one_separator (next ∷ rest) seen flags =
+    ap by_opt (one_word opt_leaf (at seen false) (codes "--") (next ∷ rest) ∙ one_word opt_leaf (at seen true) next rest)
+    ∙ stray seen (codes "--" ∷ without_end (next ∷ rest)) refl
 
 -- ---- all words
 spelled : (word text : Text) (rest : List Text) → bytes_eq text word ≡ true → IsReadBehind (text ∷ rest) → IsReadBehind (word ∷ rest)
