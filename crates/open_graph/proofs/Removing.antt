@@ -1,5 +1,5 @@
 -- A vertex removed from slots, and from the rows of its neighbours one after the other.
-use Rattle.std.proofs.Common.{◌≡◌, ◌≢◌, refl, sym, ◌∙◌, ap, ℕ, Bool, true, false, cond, ◌||◌, eqb, List, Option, None, IsSome, slice_index_or, true≢false, ne_eqb, arith}
+use Rattle.std.proofs.Common.{◌≡◌, ◌≢◌, refl, sym, ◌∙◌, ap, ℕ, Bool, true, false, cond, ◌||◌, eqb, List, Option, None, IsSome, slice_index_or, true≢false, ne_eqb}
 use Rattle.zx_model.specs.Bits.{member}
 use Rattle.zx_calculus.specs.Graph.{End, Graph, ids, joined, without, WellFormed, Interior}
 use Rattle.zx_calculus.specs.Edits.{IsRemoval}
