@@ -9,6 +9,4 @@ returns-in_err-bytes-clause-read g c = bytes_failed IsFirstSquareFault (λ text 
 
 pub returns-clause-read : goal.returns-clause-read
 returns-clause-read g c =
-    let read = c.in_ok-bytes.ensures in
-    text_refused IsFirstSquareFault c.in_ok-bytes.bytes.items c.deref.result.now _ _ _ c.deref.ensures.value read.short read.reads_well read.text
-    read.end c.square_diagram_of.ensures.refusal
+    let read = c.in_ok-bytes.ensures in text_refused IsFirstSquareFault c.in_ok-bytes.bytes.items c.deref.result.now _ _ _ c.deref.ensures.value read.short read.reads_well read.text read.end c.square_diagram_of.ensures.refusal

@@ -9,6 +9,4 @@ returns-in_err-bytes-clause-read g c = bytes_failed IsFirstFaultOfTwo (λ text f
 
 pub returns-clause-read : goal.returns-clause-read
 returns-clause-read g c =
-    let read = c.in_ok-bytes.ensures in
-    text_refused IsFirstFaultOfTwo c.in_ok-bytes.bytes.items c.deref.result.now _ _ _ c.deref.ensures.value read.short read.reads_well read.text
-    read.end c.two_circuits.ensures.refusal
+    let read = c.in_ok-bytes.ensures in text_refused IsFirstFaultOfTwo c.in_ok-bytes.bytes.items c.deref.result.now _ _ _ c.deref.ensures.value read.short read.reads_well read.text read.end c.two_circuits.ensures.refusal
