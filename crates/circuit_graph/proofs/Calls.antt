@@ -1,17 +1,16 @@
 -- What the calls of a graph's methods make of a translation under way.
-use Rattle.std.proofs.Common.{◌≡◌, ◌≢◌, refl, sym, ◌∙◌, ap, ap₂, subst, ℕ, ◌+◌, Bool, true, false, ◌&&◌, ◌||◌, eqb, [], ◌∷◌, ◌++◌, set, remove, eqb-true, true≢false}
+use Rattle.std.proofs.Common.{◌≡◌, ◌≢◌, sym, ◌∙◌, ap, ap₂, subst, ℕ, ◌+◌, false, [], ◌∷◌, ◌++◌, set, remove}
 use Rattle.std.specs.Prelude.{slice_get}
-use Rattle.zx_model.specs.Bits.{xor, member}
-use Rattle.zx_calculus.specs.Graph.{XY, Plane, Kind, End, Graph, ids, kind_of, plane_of, joined, end_vertices, with_kinds, insert_vertex, IsVertex, OrderedEdges, WellFormed, plain}
-use Rattle.zx_calculus.specs.Splits.{spider_of_phase_zero, least_free}
-use Rattle.zx_calculus.specs.Edits.{is_pair, IsToggle, at_vertex}
+use Rattle.zx_model.specs.Bits.{member}
+use Rattle.zx_calculus.specs.Graph.{XY, Plane, End, Graph, ids, kind_of, plane_of, joined, end_vertices, with_kinds, insert_vertex, IsVertex, OrderedEdges, WellFormed, plain}
+use Rattle.zx_calculus.specs.Splits.{least_free}
+use Rattle.zx_calculus.specs.Edits.{IsToggle, at_vertex}
 use Rattle.zx_calculus.specs.Turns.{in_plane, with_phase_added}
-use Rattle.zx_calculus.proofs.Booleans.{or-true, or-apart}
-use Rattle.zx_calculus.proofs.Ids.{eqb-self, apart_of_member}
-use Rattle.zx_calculus.proofs.Edges.{joined_comm}
-use Rattle.zx_calculus.proofs.Vertices.{member-insert, kind_of-insert}
-use Rattle.zx_calculus.proofs.Splitting.{absent_from, joined-absent}
+use Rattle.zx_calculus.proofs.Ids.{apart_of_member}
+use Rattle.zx_calculus.proofs.Splitting.{absent_from}
 use Rattle.zx_calculus.proofs.Edits.{with_kinds-at}
+pub use Rattle.zx_calculus.proofs.NewSpiders.{new_live, new_plane}
+use Rattle.zx_calculus.proofs.NewSpiders.{vertices_are, old_live, edges_are}
 use Rattle.gflow_laws.specs.Seen.{seen}
 use Rattle.gflow_laws.specs.Flow.{order_of, SameSets}
 use Rattle.gflow_laws.specs.Splits.{split_output_table}
@@ -28,29 +27,9 @@ use Rattle.circuit_graph.specs.Internal.Runs.{GraphSoFar, IsReady, IsSpiderStep,
 pub here_live : (g : Graph) (q u : ℕ) → WellFormed g → HasPlainOutput g q u → IsVertex g u
 here_live g q u w h = output_there g q (plain u) w h
 
--- of a pair that the new vertex is in no edge is an edge
-pair_absent : (j p_here v_next p_next v_here : Bool) → (v_next ≡ true → j ≡ false) → (p_next ≡ true → j ≡ false) → (j && ((p_here && v_next) || (p_next && v_here))) ≡ false
-pair_absent false a b c d f g = refl
-pair_absent true a true c d f g = absurd (true≢false (f refl))
-pair_absent true a b true d f g = absurd (true≢false (g refl))
-pair_absent true true false false d f g = refl
-pair_absent true false false false d f g = refl
-
 -- ---- a vertex is added
 module _ (s : Graph) (v phase : ℕ) (g : Graph) (fresh : member v (ids s.vertices) ≡ false) (zero_phase : phase ≡ 0)
     (added : g ≡ record { vertices = insert_vertex (record { id = v; kind = in_plane XY phase }) s.vertices; edges = s.edges; inputs = s.inputs; outputs = s.outputs }) where
-  vertices_are : g.vertices ≡ insert_vertex (spider_of_phase_zero v) s.vertices
-  vertices_are = ap (λ (h : Graph). h.vertices) added ∙ ap (λ k. insert_vertex (record { id = v; kind = in_plane XY k }) s.vertices) zero_phase
-
-  member_is : (p : ℕ) → member p (ids g.vertices) ≡ (eqb p v || member p (ids s.vertices))
-  member_is p = ap (λ vs. member p (ids vs)) vertices_are ∙ member-insert p (spider_of_phase_zero v) s.vertices
-
-  pub new_live : IsVertex g v
-  new_live = member_is v ∙ ap (λ b. b || member v (ids s.vertices)) (eqb-self v)
-
-  pub new_plane : plane_of g v ≡ XY
-  new_plane = ap (λ vs. (kind_of vs v).plane) vertices_are ∙ ap (λ (k : Kind). k.plane) (kind_of-insert (spider_of_phase_zero v) s.vertices fresh)
-
   -- to wires
   pub new_free : (n : ℕ) → s ≡ wires n → (member v (end_vertices g.inputs) ≡ false) × (member v (end_vertices g.outputs) ≡ false)
   new_free n e = (
@@ -75,7 +54,7 @@ module _ (s : Graph) (v phase : ℕ) (g : Graph) (fresh : member v (ids s.vertic
 module _ (s : Graph) (q here next phase : ℕ) (g : Graph) (w : WellFormed s) (output : HasPlainOutput s q here) (fresh : member next (ids s.vertices) ≡ false)
     (zero_phase : phase ≡ 0) (added : g ≡ record { vertices = insert_vertex (record { id = next; kind = in_plane XY phase }) s.vertices; edges = s.edges; inputs = s.inputs; outputs = s.outputs }) where
   pub here_there : IsVertex g here
-  here_there = member_is s next phase g fresh zero_phase added here ∙ ap (λ b. eqb here next || b) (here_live s q here w output) ∙ or-true (eqb here next)
+  here_there = old_live s next phase g fresh zero_phase added here (here_live s q here w output)
 
   pub here_other : here ≢ next
   here_other = apart_of_member here next (ids s.vertices) (here_live s q here w output) fresh
@@ -104,18 +83,10 @@ module _ (s : Graph) (q here next phase : ℕ) (g : Graph) (w : WellFormed s) (o
       vertices = ap (λ (h : Graph). h.vertices) moved ∙ toggle.vertices ∙ vertices_are s next phase g fresh zero_phase added;
       ordered = subst (λ (h : Graph). OrderedEdges (ids h.vertices) h.edges) (sym moved) toggle.frame.ordered;
       ordered_too = w.edges;
-      edges = λ p v. ap (λ (h : Graph). joined h.edges p v) moved ∙ toggle.edges p v ∙ ap (λ (h : Graph). xor (joined h.edges p v) (is_pair here next p v)) added ∙ sym (or-apart (joined s.edges p v) (is_pair here next p v) (none p v));
+      edges = λ p v. ap (λ (h : Graph). joined h.edges p v) moved ∙ edges_are s next phase g fresh zero_phase added w here h toggle p v;
       inputs = ap (λ (h : Graph). h.inputs) moved ∙ toggle.frame.inputs ∙ ap (λ (h : Graph). h.inputs) added;
       outputs = ap (λ (h : Graph). h.outputs) moved ∙ ap (λ es. set es q (plain next)) outputs_are;
     }
-      where
-        -- a new vertex has no edges
-        none : (p v : ℕ) → (joined s.edges p v && is_pair here next p v) ≡ false
-        none p v = pair_absent (joined s.edges p v) (eqb p here) (eqb v next) (eqb p next) (eqb v here) (λ e. joined_comm s.edges p v ∙ no_edge v p e) (λ e. no_edge p v e)
-          where
-            no_edge : (a b : ℕ) → eqb a next ≡ true → joined s.edges a b ≡ false
-            no_edge a b e = joined-absent (ids s.vertices) s.edges a b w.edges.lower_there w.edges.higher_there
-                (ap (λ u. member u (ids s.vertices)) (eqb-true a next e) ∙ fresh)
 
     pub spider_comes : (t : Graph) → WellFormed t → t ≡ record { vertices = h.vertices; edges = h.edges; inputs = h.inputs; outputs = set h.outputs q (plain next) } →
         t ≡ with_spider next q s

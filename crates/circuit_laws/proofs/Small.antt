@@ -261,12 +261,9 @@ gadget_linked k = record {
     leg_or_row : (a b c : Bool) → (b && c) ≡ false →
         ((a && false) || ((b && true) || ((c && true) || false))) ≡ xor ((c || (a && false)) || ((b && false) || ((c && false) || false))) (b || false)
     leg_or_row a true true h = cc
-    leg_or_row true true false h = refl
-    leg_or_row true false true h = refl
-    leg_or_row true false false h = refl
-    leg_or_row false true false h = refl
-    leg_or_row false false true h = refl
-    leg_or_row false false false h = refl
+    leg_or_row a true false h = simp and-false
+    leg_or_row a false true h = simp and-false
+    leg_or_row a false false h = simp and-false
 
     gone : (a b c d : Bool) → (((a && false) || (b && false)) || (((c && false) || (d && false)) || false)) ≡ false
     gone a b c d = simp and-false

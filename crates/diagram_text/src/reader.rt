@@ -39,10 +39,13 @@ pub(crate) fn taken(
 }
 
 // The same before the last line.
-fn line_taken(version: Version, diagram: Diagram, line: &Line) -> Result<Option<Reader>, AllocError>
+fn line_taken(
+    version: Version,
+    mut diagram: Diagram,
+    line: &Line,
+) -> Result<Option<Reader>, AllocError>
     ensures { IfOk result (λ next. next ≡ line_step (version_named version) diagram line.now) }
 {
-    let mut diagram = diagram;
     let fits = match line {
         Line::Spider {
             number,

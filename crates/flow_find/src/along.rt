@@ -131,11 +131,7 @@ pub(crate) fn correction(
 {
     let (plane, _) = g.weight(v);
     let target = target_of(plane, v);
-    let members = if target.neighbours {
-        VertexSet::one(alloc, v)?
-    } else {
-        VertexSet::new(alloc)
-    };
+    let members = target.own_member(alloc)?;
     let mut row = Row {
         pivot: v,
         columns: VertexSet::new(alloc),

@@ -12,7 +12,7 @@ ghost use Rattle.flow_find.specs.Internal.Next.{HasSetsOf, IsAloneIn, IsAlone, I
 use crate::along::{correct_last, first_rows, table_of};
 use crate::row::Row;
 use crate::sets::set_of;
-use open_graph::{OpenGraph, Plane, VertexId};
+use open_graph::{OpenGraph, VertexId};
 use std::alloc::{AllocError, Global};
 use zx_flow::FlowTable;
 
@@ -179,5 +179,5 @@ fn alone_in(g: &OpenGraph, row: &Row) -> Option<VertexId>
 pub(crate) fn is_xy(g: &OpenGraph, v: VertexId) -> bool
     ensures { result ≡ true → plane_of g.now.graph v ≡ XY }
 {
-    g.is_live(v) && matches!(g.weight(v).0, Plane::XY)
+    g.is_live(v) && g.is_xy(v)
 }

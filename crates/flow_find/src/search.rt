@@ -2,7 +2,7 @@
 
 ghost use Rattle.std.specs.Prelude.{◌≡◌, ◌≢◌, ◌<◌, ◌&&◌, ℕ, true, false, [], reverse, filter, not, IfOk, IfSome, IfNone, IsTrue, OnOk, ltb};
 ghost use Rattle.zx_model.specs.Bits.{member};
-ghost use Rattle.zx_calculus.specs.Graph.{IsVertex, Distinct, WellFormed, is_XY, plane_of, in_order};
+ghost use Rattle.zx_calculus.specs.Graph.{IsVertex, Distinct, WellFormed, in_order};
 ghost use Rattle.gflow_laws.specs.Seen.{seen};
 ghost use Rattle.gflow_laws.specs.Flow.{is_in, order_of, IsFlow};
 ghost use Rattle.flow_find.specs.Frontiers.{AreAll, around, set_from};
@@ -20,7 +20,7 @@ use crate::ranks::measured;
 use crate::row::Row;
 use crate::rows::add_picked;
 use crate::sets::{set_of, take_out};
-use open_graph::{OpenGraph, Plane, VertexId, VertexSet};
+use open_graph::{OpenGraph, VertexId, VertexSet};
 use std::alloc::{AllocError, Global};
 use zx_flow::FlowTable;
 
@@ -257,7 +257,7 @@ fn first_left(
         AreMissed (seen g.now.graph) (is_in left.now.ids) rows.now)) }
 {
     for v in left.iter() {
-        if all || !has_xy_plane(g, v) {
+        if all || !g.is_xy(v) {
             if let Some(found) = with_set(alloc, g, rows, left, v)? {
                 return Ok(Some(found));
             }
@@ -313,7 +313,7 @@ fn needed_column(g: &OpenGraph, left: &VertexSet, v: VertexId) -> Option<VertexI
     requires there { is_in left.now.ids v ≡ true }
     ensures { IfSome result (IsNeeded (seen g.now.graph) (is_in left.now.ids) v) }
 {
-    if has_xy_plane(g, v) {
+    if g.is_xy(v) {
         return Some(v);
     }
     for w in g.neighbours(v) {
@@ -322,14 +322,6 @@ fn needed_column(g: &OpenGraph, left: &VertexSet, v: VertexId) -> Option<VertexI
         }
     }
     None
-}
-
-// Whether a vertex is XY.
-fn has_xy_plane(g: &OpenGraph, v: VertexId) -> bool
-    requires { IsVertex g.now.graph v }
-    ensures { result ≡ is_XY (plane_of g.now.graph v) }
-{
-    matches!(g.weight(v).0, Plane::XY)
 }
 
 // Whether a vertex is a column of some row.
@@ -361,11 +353,7 @@ fn solved(
 {
     let (plane, _) = g.weight(v);
     let target = target_of(plane, v);
-    let members = if target.neighbours {
-        VertexSet::one(alloc, v)?
-    } else {
-        VertexSet::new(alloc)
-    };
+    let members = target.own_member(alloc)?;
     let mut row = Row {
         pivot: v,
         columns: left_around(alloc, g, left, &target)?,

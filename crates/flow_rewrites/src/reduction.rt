@@ -73,7 +73,8 @@ pub fn reduce<L: Ledger>(
     Ok(made.scalar)
 }
 
-// The moves of `reduce`, which aren't counted yet: in place where there is room.
+// The moves of `reduce`, which aren't counted yet: in place where there is room, else on copies, which have the same
+// memory and then take the place of graph, flow and trace.
 fn reduce_graph(g: &mut OpenGraph, f: &mut Flow, trace: &mut Trace) -> Result<Made, AllocError>
     requires flow { IsFlow g.old.graph f.old.flow }
     ensures made { IfOk result (λ made. IsMade g.old.graph trace.old.steps made
@@ -88,19 +89,6 @@ fn reduce_graph(g: &mut OpenGraph, f: &mut Flow, trace: &mut Trace) -> Result<Ma
     if has_room(g, f, trace) {
         return reduce_in_place(g, f, trace);
     }
-    reduce_in_copies(g, f, trace)
-}
-
-// The same on copies, which have the same memory and then take the place of graph, flow and trace.
-fn reduce_in_copies(g: &mut OpenGraph, f: &mut Flow, trace: &mut Trace) -> Result<Made, AllocError>
-    requires flow { IsFlow g.old.graph f.old.flow }
-    ensures made { IfOk result (λ made. IsMade g.old.graph trace.old.steps made
-        g.new.graph f.new.flow trace.new.steps) }
-    ensures err { OnErr result ((g.new.graph ≡ g.old.graph) × (f.new.flow ≡ f.old.flow)
-        × (trace.new.steps ≡ trace.old.steps)) }
-    ensures room { KeepRoom g.old f.old trace.old g.new f.new trace.new }
-    ensures valid { WellFormed g.new.graph }
-{
     let mut graph = g.copy()?;
     let mut flow = f.copy()?;
     let mut longer = trace.copy()?;

@@ -13,10 +13,11 @@ use Rattle.zx_diagram.specs.declared.spider.Spider.{Spider}
 use Rattle.zx_diagram.specs.declared.wire.Leg.{Leg}
 use Rattle.zx_diagram.specs.Diagram.{numbers_from}
 use Rattle.zx_diagram.specs.Sum.{leg_mark}
-use Rattle.graph_like.specs.declared.ends.Side.{Side}
-use Rattle.graph_like.specs.declared.ends.Side.TheVariants.{Input, Output}
+use Rattle.open_graph.specs.declared.side.Side.{Side}
+use Rattle.open_graph.specs.declared.side.Side.TheVariants.{Input, Output}
+use Rattle.open_graph.specs.Sides.{ends_of}
 use Rattle.graph_like.specs.LikeForm.{ends_at, surplus_in, placed_in, hangs}
-use Rattle.graph_like.specs.Internal.Building.{IsNumbered, HangsOn, AddsEnds, ends_of, surplus_of}
+use Rattle.graph_like.specs.Internal.Building.{IsNumbered, HangsOn, AddsEnds, surplus_of}
 use Rattle.graph_like.proofs.Hanging.{AreBelow}
 use Rattle.graph_like.proofs.Homing.{absent-below}
 use Rattle.graph_like.proofs.Building.{xor_regroup}

@@ -16,7 +16,7 @@ use Rattle.zx_calculus.proofs.Splitting.{joined-absent}
 use Rattle.zx_diagram.specs.declared.spider.Spider.{Spider}
 use Rattle.zx_diagram.specs.Diagram.{Diagram, IsDiagram, numbers_from}
 use Rattle.graph_like.specs.declared.homes.Homes.{Homes}
-use Rattle.graph_like.specs.declared.ends.Side.TheVariants.{Input, Output}
+use Rattle.open_graph.specs.declared.side.Side.TheVariants.{Input, Output}
 use Rattle.graph_like.specs.Classes.{NamesClasses, named_by}
 use Rattle.graph_like.specs.LikeForm.{leaders, place, home_in, class_phase, class_vertex, joined_oddly, surplus_in, placed_in, hangs, inputs_at, outputs_at, surplus, all_surplus, adjacent, like_graph, IsLikeForm}
 use Rattle.graph_like.specs.Internal.Homes.{leaders_below, IsNaming, AreHomes, AreClassHomes, home_of, AreHomesOf}

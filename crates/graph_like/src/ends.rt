@@ -4,24 +4,18 @@ ghost use Rattle.std.specs.Prelude.{◌≡◌, ◌<◌, ◌≤◌, ◌++◌, [],
 ghost use Rattle.std.specs.List.{All};
 ghost use Rattle.zx_model.specs.Bits.{member};
 ghost use Rattle.zx_calculus.specs.Graph.{IsVertex, end_vertices};
+ghost use Rattle.open_graph.specs.Sides.{ends_of, with_ends};
 ghost use Rattle.graph_like.specs.LikeForm.{ends_at};
 ghost use Rattle.graph_like.specs.Internal.Homes.{home_of, AreHomesOf};
-ghost use Rattle.graph_like.specs.Internal.Building.{IsNumbered, AddsEnds, HangsOn, ends_of, with_ends};
+ghost use Rattle.graph_like.specs.Internal.Building.{IsNumbered, AddsEnds, HangsOn};
 
 use crate::homes::Homes;
 use crate::marks::leg_mark;
 use crate::vertices::push_vertex;
-use open_graph::{End, OpenGraph, VertexId};
+use open_graph::{End, OpenGraph, Side, VertexId};
 use std::alloc::AllocError;
 use zx_diagram::{Leg, Spider};
 use zx_model::Sixteenth;
-
-// Whether ends are inputs or outputs.
-#[derive(Clone, Copy, Debug, PartialEq, Eq)]
-pub(crate) enum Side {
-    Input,
-    Output,
-}
 
 // Adds the ends of a side, each at the vertex of its class, or at a new one where that has an end of this side.
 pub(crate) fn add_ends(
@@ -93,10 +87,7 @@ fn has_end(graph: &OpenGraph, side: Side, v: VertexId) -> bool
     requires { IsVertex graph.now.graph v }
     ensures { result ≡ member v (end_vertices (ends_of side graph.now.graph)) }
 {
-    match side {
-        Side::Input => graph.input_at(v).is_some(),
-        Side::Output => graph.output_at(v).is_some(),
-    }
+    side.place_at(graph, v).is_some()
 }
 
 // Adds an end of a side after all others.

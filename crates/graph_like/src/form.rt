@@ -8,11 +8,11 @@ ghost use Rattle.graph_like.specs.LikeForm.{IsLikeForm};
 ghost use Rattle.graph_like.specs.Internal.Homes.{AreClassHomes, AreHomesOf};
 
 use crate::classes::least_spiders;
-use crate::ends::{Side, add_ends};
+use crate::ends::add_ends;
 use crate::homes::Homes;
 use crate::phases::class_phases;
 use crate::vertices::{class_vertices, join_classes};
-use open_graph::OpenGraph;
+use open_graph::{OpenGraph, Side};
 use std::alloc::{AllocError, Global};
 use zx_diagram::Diagram;
 

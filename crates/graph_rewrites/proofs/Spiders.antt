@@ -1,16 +1,16 @@
 -- What holds once a spider was added.
-use Rattle.std.proofs.Common.{◌≡◌, ◌≢◌, refl, sym, ◌∙◌, ap, ap₂, ℕ, zero, suc, ◌<◌, Bool, true, false, ◌&&◌, ◌||◌, eqb, List, [], ◌∷◌, remove, eqb-true, true≢false, arith}
-use Rattle.zx_model.specs.Bits.{xor, member}
+use Rattle.std.proofs.Common.{◌≡◌, ◌≢◌, refl, sym, ◌∙◌, ap, ap₂, ℕ, zero, suc, ◌<◌, true, false, ◌||◌, eqb, List, [], ◌∷◌, remove, arith}
+use Rattle.zx_model.specs.Bits.{member}
 use Rattle.zx_bits.specs.Sets.{IsBelow}
-use Rattle.zx_calculus.specs.Graph.{XY, Kind, End, Graph, ids, kind_of, plane_of, joined, end_vertices, insert_vertex, IsVertex, OrderedEnds, WellFormed}
+use Rattle.zx_calculus.specs.Graph.{XY, Kind, End, Graph, ids, kind_of, plane_of, end_vertices, insert_vertex, IsVertex, OrderedEnds, WellFormed}
 use Rattle.zx_calculus.specs.Splits.{spider_of_phase_zero}
-use Rattle.zx_calculus.specs.Edits.{is_pair, IsToggle}
+use Rattle.zx_calculus.specs.Edits.{IsToggle}
 use Rattle.zx_calculus.specs.Turns.{in_plane}
-use Rattle.zx_calculus.proofs.Booleans.{or-apart, or-true}
+use Rattle.zx_calculus.proofs.Booleans.{or-true}
 use Rattle.zx_calculus.proofs.Ids.{by_equal, eqb-self, or-left, or-right, apart_of_member}
-use Rattle.zx_calculus.proofs.Edges.{joined_comm}
 use Rattle.zx_calculus.proofs.Vertices.{member-insert, kind_of-insert}
-use Rattle.zx_calculus.proofs.Splitting.{all_at, absent_from, joined-absent}
+use Rattle.zx_calculus.proofs.NewSpiders.{vertices_are, old_live, edges_are, new_live as spider_live}
+use Rattle.zx_calculus.proofs.Splitting.{all_at, absent_from}
 use Rattle.graph_rewrites.specs.Internal.Spiders.{IsSpiderAdded}
 
 -- the vertex of an end is live
@@ -30,47 +30,26 @@ all_below new old reach first rest v there = by_equal v new (λ t e. omega (arit
 -- ---- g is the graph with the new vertex, before its edge
 module _ (old : Graph) (b new phase : ℕ) (g : Graph) (b_live : IsVertex old b) (fresh : member new (ids old.vertices) ≡ false) (zero_phase : phase ≡ 0)
     (added : g ≡ record { vertices = insert_vertex (record { id = new; kind = in_plane XY phase }) old.vertices; edges = old.edges; inputs = old.inputs; outputs = old.outputs }) where
-  vertices_are : g.vertices ≡ insert_vertex (spider_of_phase_zero new) old.vertices
-  vertices_are = ap (λ (h : Graph). h.vertices) added ∙ ap (λ k. insert_vertex (record { id = new; kind = in_plane XY k }) old.vertices) zero_phase
-
-  member_is : (p : ℕ) → member p (ids g.vertices) ≡ (eqb p new || member p (ids old.vertices))
-  member_is p = ap (λ vs. member p (ids vs)) vertices_are ∙ member-insert p (spider_of_phase_zero new) old.vertices
-
   pub b_still_live : IsVertex g b
-  b_still_live = member_is b ∙ ap (λ c. eqb b new || c) b_live ∙ or-true (eqb b new)
+  b_still_live = old_live old new phase g fresh zero_phase added b b_live
 
   pub new_there : IsVertex g new
-  new_there = member_is new ∙ ap (λ c. c || member new (ids old.vertices)) (eqb-self new)
+  new_there = spider_live old new phase g fresh zero_phase added
 
   pub b_apart : b ≢ new
   b_apart = apart_of_member b new (ids old.vertices) b_live fresh
 
-  -- of a pair that the new vertex is in no edge is an edge
-  pair_absent : (j p_b q_new p_new q_b : Bool) → (q_new ≡ true → j ≡ false) → (p_new ≡ true → j ≡ false) → (j && ((p_b && q_new) || (p_new && q_b))) ≡ false
-  pair_absent false a c d e f g = refl
-  pair_absent true a true d e f g = absurd (true≢false (f refl))
-  pair_absent true a false true e f g = absurd (true≢false (g refl))
-  pair_absent true true false false e f g = refl
-  pair_absent true false false false e f g = refl
-
   pub spider_added : WellFormed old → (h : Graph) → IsToggle g b new h → IsSpiderAdded old b new h
   spider_added w h toggle = record {
     fresh = fresh;
-    vertices = toggle.vertices ∙ vertices_are;
-    edges = λ p q. toggle.edges p q ∙ ap (λ (k : Graph). xor (joined k.edges p q) (is_pair b new p q)) added ∙ sym (or-apart (joined old.edges p q) (is_pair b new p q) (none p q));
+    vertices = toggle.vertices ∙ vertices_are old new phase g fresh zero_phase added;
+    edges = edges_are old new phase g fresh zero_phase added w b h toggle;
     frame = record {
       ordered = toggle.frame.ordered;
       inputs = toggle.frame.inputs ∙ ap (λ (k : Graph). k.inputs) added;
       outputs = toggle.frame.outputs ∙ ap (λ (k : Graph). k.outputs) added;
     };
   }
-    where
-      no_edge : (p q : ℕ) → eqb p new ≡ true → joined old.edges p q ≡ false
-      no_edge p q e = joined-absent (ids old.vertices) old.edges p q w.edges.lower_there w.edges.higher_there (ap (λ u. member u (ids old.vertices)) (eqb-true p new e) ∙ fresh)
-
-      -- a new vertex has no edges
-      none : (p q : ℕ) → (joined old.edges p q && is_pair b new p q) ≡ false
-      none p q = pair_absent (joined old.edges p q) (eqb p b) (eqb q new) (eqb p new) (eqb q b) (λ e. joined_comm old.edges p q ∙ no_edge q p e) (λ e. no_edge p q e)
 
 -- ---- with the spider
 module _ (old : Graph) (b new : ℕ) (h : Graph) (s : IsSpiderAdded old b new h) where

@@ -12,9 +12,10 @@ use Rattle.zx_calculus.proofs.Edits.{set-move_end}
 use Rattle.zx_calculus.proofs.Ids.{and-left, and-right, eqb_comm, not-true, member-there}
 use Rattle.zx_calculus.proofs.Splitting.{all_at}
 use Rattle.open_graph.proofs.PlaceLemmas.{slice_get-places}
-use Rattle.graph_rewrites.specs.declared.side.Side.{Side}
-use Rattle.graph_rewrites.specs.declared.side.Side.TheVariants.{Input, Output}
-use Rattle.graph_rewrites.specs.Internal.Sides.{split_of, ends_of, with_ends}
+use Rattle.open_graph.specs.declared.side.Side.{Side}
+use Rattle.open_graph.specs.declared.side.Side.TheVariants.{Input, Output}
+use Rattle.open_graph.specs.Sides.{ends_of, with_ends}
+use Rattle.graph_rewrites.specs.Internal.Sides.{split_of}
 use Rattle.graph_rewrites.specs.Internal.Spiders.{IsSpiderAdded}
 use Rattle.graph_rewrites.proofs.Spiders.{end_live}
 

@@ -1,13 +1,13 @@
 //! The removal and the fusion of gadgets.
 
 ghost use Rattle.std.specs.Prelude.{◌≡◌, true};
-ghost use Rattle.zx_calculus.specs.Graph.{is_XY, plane_of, IsVertex, WellFormed};
+ghost use Rattle.zx_calculus.specs.Graph.{WellFormed};
 ghost use Rattle.zx_calculus.specs.Steps.{allowed, DropLone, FuseInto, FuseTwin, IsStep};
 ghost use Rattle.zx_calculus.specs.StepScalars.{step_scalar};
 ghost use Rattle.open_graph.specs.Rooms.{with_place};
 
 use crate::gadget::{add_phase, gadget_scalar, is_gadget, take_out};
-use open_graph::{OpenGraph, Plane, VertexId};
+use open_graph::{OpenGraph, VertexId};
 use zx_model::Scalar;
 
 /// Whether the id is that of a YZ vertex without neighbours.
@@ -30,7 +30,7 @@ pub fn may_fuse_into(g: &OpenGraph, u: VertexId) -> bool
         return false;
     }
     match g.neighbour_from(u, 0) {
-        Some(leg) => is_xy(g, leg),
+        Some(leg) => g.is_xy(leg),
         None => false,
     }
 }
@@ -97,12 +97,4 @@ pub fn fuse_twin_in_graph(g: &mut OpenGraph, u: VertexId, v: VertexId) -> Scalar
     let phase = take_out(g, v);
     add_phase(g, u, phase);
     gadget_scalar()
-}
-
-fn is_xy(g: &OpenGraph, v: VertexId) -> bool
-    requires { IsVertex g.now.graph v }
-    ensures { result ≡ is_XY (plane_of g.now.graph v) }
-{
-    let (plane, _) = g.weight(v);
-    matches!(plane, Plane::XY)
 }

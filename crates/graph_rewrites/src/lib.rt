@@ -16,7 +16,7 @@
 //! - `step`: rewrites by their names, a list of cases over the tests and the changes.
 //! - `complement`, `deletion`: with `neighbours`, what is done to each neighbour of a vertex, and `scalars`.
 //! - `pivot`: with its scalar in `pivot_scalar`.
-//! - `split`: with `side`, what differs between an input and an output, and `spider`, what a split is made of.
+//! - `split`: with `spider`, what a split is made of.
 //! - `gadgets`: with `gadget`, what their rewrites are made of.
 //!
 //! ```rust
@@ -34,7 +34,6 @@ mod gadgets;
 mod pivot;
 mod pivot_scalar;
 mod scalars;
-mod side;
 mod spider;
 mod split;
 mod step;

@@ -9,9 +9,8 @@ ghost use Rattle.zx_calculus.specs.StepScalars.{step_scalar};
 ghost use Rattle.graph_rewrites.specs.Internal.Sides.{split_of};
 ghost use Rattle.open_graph.specs.Rooms.{without_place};
 
-use crate::side::Side;
 use crate::spider::{add_spider, split_scalar, toggled};
-use open_graph::{OpenGraph, VertexId};
+use open_graph::{OpenGraph, Side, VertexId};
 use std::alloc::AllocError;
 use zx_model::Scalar;
 

@@ -244,16 +244,14 @@ module _ (new : ℕ) (gate : Gate) (g k : Graph) (w : WellFormed g) (fresh : mem
         }
 
     drop_lone : (u : ℕ) → IsDropLone g u h → IsDropLone k u l
-    drop_lone u c =
-        let inner : Interior g u = off_YZ u c.plane in
-        record {
-          there = live u c.there;
-          plane = plane u c.there ∙ c.plane;
-          lone = λ p. row u c.there inner p ∙ c.lone p;
-          vertices = Q.vertices ∙ ap (extended new g.outputs gate) c.vertices ∙ gone u c.there;
-          edges = λ p q n m. edges_left p q (c.edges p q n m);
-          frame = frame c.frame;
-        }
+    drop_lone u c = record {
+      there = live u c.there;
+      plane = plane u c.there ∙ c.plane;
+      lone = λ p. row u c.there (off_YZ u c.plane) p ∙ c.lone p;
+      vertices = Q.vertices ∙ ap (extended new g.outputs gate) c.vertices ∙ gone u c.there;
+      edges = λ p q n m. edges_left p q (c.edges p q n m);
+      frame = frame c.frame;
+    }
 
     fuse_into : (u : ℕ) → IsFuseInto g u h → IsFuseInto k u l
     fuse_into u c =

@@ -19,7 +19,8 @@ use Rattle.open_graph.specs.Internal.Rows.{inserted}
 use Rattle.open_graph.specs.Internal.Slots.{Told, nothing, told_by, told_at, vertices_of, adjacent, graph_of, place_among, IsSound}
 use Rattle.open_graph.specs.declared.side.Side.{Side}
 use Rattle.open_graph.specs.declared.side.Side.TheVariants.{Input, Output}
-use Rattle.open_graph.specs.Internal.Sides.{ends_of, with_ends, with_side_place, Moves}
+use Rattle.open_graph.specs.Sides.{ends_of, with_ends}
+use Rattle.open_graph.specs.Internal.Sides.{with_side_place, Moves}
 use Rattle.open_graph.specs.Internal.Changes.{Puts, SameTold, Stores}
 use Rattle.open_graph.proofs.PlaceLemmas.{place_among-push, place_among-set, member-place}
 use Rattle.open_graph.proofs.RowLemmas.{removed-inserted}

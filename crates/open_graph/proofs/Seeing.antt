@@ -16,7 +16,8 @@ use Rattle.open_graph.specs.declared.side.Side.TheVariants.{Input, Output}
 use Rattle.open_graph.specs.OpenGraph.{OpenGraph}
 use Rattle.open_graph.specs.VertexSets.{VertexSet}
 use Rattle.open_graph.specs.Internal.Slots.{nothing, told_by, told_at, vertices_of, graph_of, IsSound}
-use Rattle.open_graph.specs.Internal.Sides.{ends_of, with_ends, with_side_place, Moves}
+use Rattle.open_graph.specs.Sides.{ends_of, with_ends}
+use Rattle.open_graph.specs.Internal.Sides.{with_side_place, Moves}
 use Rattle.open_graph.specs.Internal.Changes.{Puts, SameTold, Stores, RemovedFrom, RowsToggled, two_among, KindsChanged, powers_in}
 use Rattle.open_graph.specs.Internal.Room.{vacant_in, KeepsRoom, HasRoom, CanHold, IsStored}
 use Rattle.open_graph.proofs.SlotLemmas.{contains_live, rising_vertices, member-vertices, member_of_some}

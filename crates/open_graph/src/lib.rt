@@ -20,7 +20,7 @@
 //! - `slots`: changes of one slot, of the rows of two, and of many rows at once, and the rows kept
 //!   for ids that no vertex has.
 //! - `scratch`: two sets that calls fill.
-//! - `side`: changes of the inputs or of the outputs.
+//! - `side`: the inputs or the outputs, read and changed.
 //! - `open_graph`: `OpenGraph` with its calls. What slots tell of each id (`told`) decides the
 //!   lists, so each call is shown as a change of what is told.
 //!
@@ -51,6 +51,7 @@ pub use id::VertexId;
 pub use ids::Ids;
 pub use open_graph::OpenGraph;
 pub use plane::Plane;
+pub use side::Side;
 pub use turn::Turn;
 pub use vertex_set::VertexSet;
 pub use vertices::Vertices;

@@ -3,7 +3,7 @@
 ghost use Rattle.std.specs.Prelude.{◌≡◌, ◌≢◌, ◌↔◌, ◌<◌, ◌≤◌, ◌+◌, ◌-◌, ◌++◌, ℕ, [], ◌∷◌, true, false, length, slice_set, remove, is_some, slice_get};
 ghost use Rattle.std.specs.Prelude.{IsOk, IfOk, OnOk, OnErr, IfSome};
 ghost use Rattle.zx_model.specs.Bits.{member};
-ghost use Rattle.zx_calculus.specs.Graph.{ids, kind_of, plane_of, joined, end_vertices, insert_vertex, with_kinds, IsVertex, WellFormed, Interior, is_interior};
+ghost use Rattle.zx_calculus.specs.Graph.{ids, is_XY, kind_of, plane_of, joined, end_vertices, insert_vertex, with_kinds, IsVertex, WellFormed, Interior, is_interior};
 ghost use Rattle.zx_calculus.specs.Graph as zx;
 ghost use Rattle.zx_calculus.specs.Turns.{in_plane, quarter_turned};
 ghost use Rattle.zx_calculus.specs.Splits.{least_free};
@@ -488,6 +488,15 @@ impl OpenGraph {
     {
         let slot = self.slot(v);
         (slot.plane, slot.phase)
+    }
+
+    /// Whether a vertex is of the XY plane.
+    pub fn is_xy(&self, v: VertexId) -> bool
+        requires { IsVertex self.now.graph v }
+        ensures value { result ≡ is_XY (plane_of self.now.graph v) }
+        ensures valid { WellFormed self.now.graph }
+    {
+        matches!(self.weight(v).0, Plane::XY)
     }
 
     /// Whether a vertex has neither an input nor an output.

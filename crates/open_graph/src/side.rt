@@ -1,6 +1,11 @@
 //! The two sides of a graph, and changes of the ends of either.
 
-ghost use Rattle.std.specs.Prelude.{◌≡◌, ◌<◌, ◌≤◌, ◌++◌, ℕ, [], ◌∷◌, Some, length, slice_set, slice_index_or, OnOk, OnErr};
+ghost use Rattle.std.specs.Prelude.{◌≡◌, ◌<◌, ◌≤◌, ◌++◌, ℕ, [], ◌∷◌, false, is_some, Some, length, remove, slice_get, slice_set, slice_index_or};
+ghost use Rattle.std.specs.Prelude.{IfSome, OnOk, OnErr};
+ghost use Rattle.zx_model.specs.Bits.{member};
+ghost use Rattle.zx_calculus.specs.Graph.{end_vertices, plane_of, IsVertex, WellFormed};
+ghost use Rattle.zx_calculus.specs.Graph as zx;
+ghost use Rattle.open_graph.specs.Sides.{ends_of, with_ends};
 ghost use Rattle.open_graph.specs.Internal.Table.{HasSlot};
 ghost use Rattle.open_graph.specs.Internal.Slots.{told_at, graph_of, IsSound};
 ghost use Rattle.open_graph.specs.Internal.Room.{vacant_in, KeepsRoom, HasRoom};
@@ -8,16 +13,62 @@ ghost use Rattle.open_graph.specs.Internal.Sides.{with_side_place, Moves};
 ghost use Rattle.open_graph.specs.Internal.Changes.{Puts};
 
 use crate::end::End;
+use crate::id::VertexId;
+use crate::open_graph::OpenGraph;
 use crate::slot_table::SlotTable;
 use crate::slots;
 use crate::vertex_set::VertexSet;
 use std::alloc::AllocError;
 
-// Whether a wire is an input or an output.
+/// Whether a wire is an input or an output.
 #[derive(Clone, Copy, Debug, PartialEq, Eq)]
-pub(crate) enum Side {
+pub enum Side {
+    /// It is an input.
     Input,
+    /// It is an output.
     Output,
+}
+
+impl Side {
+    /// The ends of the side, in their order.
+    pub fn ends(self, g: &OpenGraph) -> &[End]
+        ensures value { result.now ≡ ends_of self g.now.graph }
+        ensures valid { WellFormed g.now.graph }
+    {
+        match self {
+            Side::Input => g.inputs(),
+            Side::Output => g.outputs(),
+        }
+    }
+
+    /// The place of a vertex's end on the side, where it has one.
+    pub fn place_at(self, g: &OpenGraph, v: VertexId) -> Option<usize>
+        requires { IsVertex g.now.graph v }
+        ensures found { is_some result ≡ member v (end_vertices (ends_of self g.now.graph)) }
+        ensures place { IfSome result (λ i. slice_get (end_vertices (ends_of self g.now.graph)) i ≡ Some v) }
+    {
+        match self {
+            Side::Input => g.input_at(v),
+            Side::Output => g.output_at(v),
+        }
+    }
+
+    /// Replaces the end of the side at a place.
+    pub fn move_end(self, g: &mut OpenGraph, i: usize, end: End)
+        requires in_range { i < length (ends_of self g.old.graph) }
+        requires live { IsVertex g.old.graph end.vertex }
+        requires plane { plane_of g.old.graph end.vertex ≡ zx.XY }
+        requires free { member end.vertex (end_vertices (remove (ends_of self g.old.graph) i)) ≡ false }
+        ensures ok { let ends = slice_set (ends_of self g.old.graph) i end in
+            g.new.graph ≡ with_ends self ends g.old.graph }
+        ensures room { g.new.room ≡ g.old.room }
+        ensures valid { WellFormed g.new.graph }
+    {
+        match self {
+            Side::Input => g.move_input(i, end),
+            Side::Output => g.move_output(i, end),
+        }
+    }
 }
 
 // Adds an end after all others of its side.

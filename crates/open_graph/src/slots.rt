@@ -471,14 +471,13 @@ pub(crate) fn remove(slots: &mut SlotTable, kept: &mut Vec<VertexSet>, v: Vertex
 }
 
 // Keeps a row for an id below the end of those kept, without its vertices.
-fn keep_row(kept: &mut Vec<VertexSet>, v: VertexId, row: VertexSet)
+fn keep_row(kept: &mut Vec<VertexSet>, v: VertexId, mut row: VertexSet)
     ensures room { v < length kept.old.items → row.room ≤ (row_kept kept.new.items v).room }
     ensures others { (p : ℕ) → p ≢ v → row_kept kept.new.items p ≡ row_kept kept.old.items p }
     ensures covers { length kept.new.items ≡ length kept.old.items }
     ensures empty { AreEmpty kept.old.items → AreEmpty kept.new.items }
 {
     if v.get() < kept.len() {
-        let mut row = row;
         row.clear();
         kept[v.get()] = row;
     }

@@ -2,7 +2,7 @@
 use Rattle.std.proofs.Common.{◌≡◌, refl, sym, ◌∙◌, ap, ap₂, ℕ, Bool, true, false, not, ◌&&◌, ◌||◌, cond, eqb, List, [], ◌∷◌, ◌++◌, Option, Some, None, is_some, eqb-true, true≢false, arith}
 use Rattle.zx_model.specs.Bits.{xor, member}
 use Rattle.zx_model.specs.Phase.{half_turn}
-use Rattle.zx_model.proofs.BitLemmas.{xor_assoc}
+use Rattle.zx_model.proofs.BitLemmas.{xor_assoc, xor-and}
 use Rattle.zx_calculus.specs.Graph.{Graph, joined, neighbours, plane_of, phase_of, is_XY, is_XZ, WellFormed}
 use Rattle.zx_calculus.specs.Gadgets.{first_of_list}
 use Rattle.zx_calculus.specs.Steps.{LocalComplement, Delete, Pivot, FuseInto, allowed, after}
@@ -66,28 +66,15 @@ pub picked_more : (xs ys : List ℕ) (v w : ℕ) (n : Bool) → ys ≡ xs ++ v �
 picked_more xs ys v w n more is = ap (λ zs. stands_odd zs w) more ∙ stands_odd-more xs v w ∙ ap (xor (stands_odd xs w)) (picked (eqb w v) n is)
 
 -- ---- the vertex and its neighbours, as far as they have come
+-- what stands beside a bit is looked at only where that is true
+and_same : (e p q : Bool) → (e ≡ true → q ≡ p) → (e && q) ≡ (e && p)
+and_same true p q same = same refl
+and_same false p q same = refl
+
 -- one more
 one_more : (old m e p q : Bool) → (e ≡ true → q ≡ p) → xor (xor old (m && p)) (e && q) ≡ xor old (xor m e && p)
-one_more old m false p q same = at old m p
-  where
-    at : (old m p : Bool) → xor (xor old (m && p)) false ≡ xor old (xor m false && p)
-    at true true true = refl
-    at true true false = refl
-    at true false p = refl
-    at false true true = refl
-    at false true false = refl
-    at false false p = refl
-one_more old m true p q same = ap (xor (xor old (m && p))) (same refl) ∙ at old m p
-  where
-    at : (old m p : Bool) → xor (xor old (m && p)) p ≡ xor old (xor m true && p)
-    at true true true = refl
-    at true true false = refl
-    at true false true = refl
-    at true false false = refl
-    at false true true = refl
-    at false true false = refl
-    at false false true = refl
-    at false false false = refl
+one_more old m e p q same =
+    xor_assoc old (m && p) (e && q) ∙ ap (xor old) (ap (xor (m && p)) (and_same e p q same) ∙ sym (xor-and m e p))
 
 pub negated_more : (n : ℕ → Bool) (old yielded yielded' found found' : ℕ → Bool) (v w : ℕ) →
     yielded' w ≡ xor (yielded w) (eqb w v) → found w ≡ xor (old w) (yielded w && n w) → found' w ≡ xor (found w) (eqb w v && n v) →

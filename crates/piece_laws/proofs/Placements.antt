@@ -175,19 +175,14 @@ placed_on places n apart low (gate ∷ gates) on =
     (placed_gate_on places n apart low gate (All-head (IsGateOn (length places)) gate gates on))
     (placed_on places n apart low gates (All-tail (IsGateOn (length places)) gate gates on))
 
-placed_odd : (places : List ℕ) (gate : Gate) → is_odd_phase (placed_gate places gate) ≡ is_odd_phase gate
-placed_odd places (H q) = refl
-placed_odd places (Phase q k) = refl
-placed_odd places (Cz q r) = refl
-placed_odd places (Cx q r) = refl
-placed_odd places (Not q) = refl
-
-placed_two : (places : List ℕ) (gate : Gate) → is_two_qubit (placed_gate places gate) ≡ is_two_qubit gate
-placed_two places (H q) = refl
-placed_two places (Phase q k) = refl
-placed_two places (Cz q r) = refl
-placed_two places (Cx q r) = refl
-placed_two places (Not q) = refl
+-- a gate stays of its kind
+placed_kind : (places : List ℕ) (gate : Gate)
+    → (is_odd_phase (placed_gate places gate) ≡ is_odd_phase gate) × (is_two_qubit (placed_gate places gate) ≡ is_two_qubit gate)
+placed_kind places (H q) = (refl, refl)
+placed_kind places (Phase q k) = (refl, refl)
+placed_kind places (Cz q r) = (refl, refl)
+placed_kind places (Cx q r) = (refl, refl)
+placed_kind places (Not q) = (refl, refl)
 
 -- as many pass a test that doesn't look at the qubits
 count-placed : (places : List ℕ) (test : Gate → Bool) → ((gate : Gate) → test (placed_gate places gate) ≡ test gate) → (gates : List Gate)
@@ -201,17 +196,25 @@ pub placed_replacement : (n : ℕ) (places : List ℕ) (old new : List Gate) →
 placed_replacement n places old new are on r = record {
   on_qubits = placed_on places n are.distinct are.below new r.on_qubits;
   map = placed_map places n are.distinct are.below old new on r.on_qubits r.map;
-  odd = at_most (count-placed places is_odd_phase (placed_odd places) new) (count-placed places is_odd_phase (placed_odd places) old) r.odd;
+  odd = at_most (odd_placed new) (odd_placed old) r.odd;
   size =
       elim r.size [
-        | inl less ↦ inl (below (count-placed places is_two_qubit (placed_two places) new) (count-placed places is_two_qubit (placed_two places) old) less)
+        | inl less ↦ inl (below (two_placed new) (two_placed old) less)
         | inr same ↦ inr (
-          count-placed places is_two_qubit (placed_two places) new ∙ same.0 ∙ sym (count-placed places is_two_qubit (placed_two places) old),
+          two_placed new ∙ same.0 ∙ sym (two_placed old),
           at_most (length-map new (placed_gate places)) (length-map old (placed_gate places)) same.1,
         )
       ];
 }
   where
+    odd_placed : (gates : List Gate)
+        → sum_by (λ gate. cond (is_odd_phase gate) 1 0) (placed places gates) ≡ sum_by (λ gate. cond (is_odd_phase gate) 1 0) gates
+    odd_placed = count-placed places is_odd_phase (λ gate. (placed_kind places gate).0)
+
+    two_placed : (gates : List Gate)
+        → sum_by (λ gate. cond (is_two_qubit gate) 1 0) (placed places gates) ≡ sum_by (λ gate. cond (is_two_qubit gate) 1 0) gates
+    two_placed = count-placed places is_two_qubit (λ gate. (placed_kind places gate).1)
+
     at_most : {j k l m : ℕ} → j ≡ k → l ≡ m → k ≤ m → j ≤ l
     at_most e e' less = omega arith
 

@@ -18,6 +18,12 @@ use Rattle.zx_model.proofs.BitLemmas.{and-true, and-false}
 use Rattle.zx_bits.proofs.Sums.{is_odd-same, is_odd-none, is_odd-xor, is_odd-add, is_odd-either}
 use Rattle.zx_bits.proofs.Digits.{digit-xor, digit-and, digit-zero, same_from_digits}
 
+-- The next words are the first ones, with the first i of the added words added from the start on.
+pub record AddsFirst (first next : List ℕ) (start : ℕ) (added : List ℕ) (i : ℕ) : Type 0 where
+  pub within : i ≤ length added
+  pub size : length next ≡ length first
+  pub words : (v : ℕ) → get_or next v 0 ≡ bit_xor (get_or first v 0) (if ltb v (start + i) then word_from start added v else 0)
+
 pub word_before : (w : Window) (number : ℕ) → number < w.offset → word_at w number ≡ 0
 word_before w number lt = let t = lt-ltb number w.offset lt in rw t refl
 

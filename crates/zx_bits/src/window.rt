@@ -8,7 +8,7 @@ ghost use Rattle.zx_model.specs.Bits.{xor};
 ghost use Rattle.zx_bits.specs.Rows.{IsFirstFrom};
 ghost use Rattle.zx_bits.specs.Internal.Words.{is_odd};
 ghost use Rattle.zx_bits.specs.Internal.Windows.{word_at, word_from, is_set, end_of, places_of, span};
-ghost use Rattle.zx_bits.specs.Internal.Windows.{Covers, AddsTo, EndsBy};
+ghost use Rattle.zx_bits.specs.Internal.Windows.{CanKeep, Covers, AddsTo, EndsBy};
 
 use smallvec::SmallVec;
 use std::alloc::{AllocError, Global};
@@ -89,9 +89,7 @@ impl Window {
     // Keeps these words too. Where memory runs out, the words are as they were.
     #[inline(always)]
     fn cover(&mut self, first: usize, end: usize) -> Result<(), AllocError>
-        requires some { first < end }
-        requires within { end ≤ 2 ^ 58 }
-        requires bounded { end_of self.old ≤ 2 ^ 58 }
+        requires { CanKeep first end self.old }
         ensures ok { OnOk result (Covers first end self.old self.new) }
         ensures err { OnErr result (self.new ≡ self.old) }
         ensures room { max (end_of self.old) end ≤ self.old.words.capacity → IsOk result }
@@ -104,9 +102,7 @@ impl Window {
 
     // The same where some of them may not be kept.
     fn widen(&mut self, first: usize, end: usize) -> Result<(), AllocError>
-        requires some { first < end }
-        requires within { end ≤ 2 ^ 58 }
-        requires bounded { end_of self.old ≤ 2 ^ 58 }
+        requires { CanKeep first end self.old }
         ensures ok { OnOk result (Covers first end self.old self.new) }
         ensures err { OnErr result (self.new ≡ self.old) }
         ensures room { max (end_of self.old) end ≤ self.old.words.capacity → IsOk result }
@@ -120,9 +116,7 @@ impl Window {
     // Takes the memory for these words and for those that have a bit set and all between, and lets those at the ends
     // go that have none. Where memory runs out, the words are as they were.
     fn make_room(&mut self, first: usize, end: usize) -> Result<(), AllocError>
-        requires some { first < end }
-        requires within { end ≤ 2 ^ 58 }
-        requires bounded { end_of self.old ≤ 2 ^ 58 }
+        requires { CanKeep first end self.old }
         ensures words { (number : ℕ) → word_at self.new number ≡ word_at self.old number }
         ensures end { end_of self.new ≤ end_of self.old }
         ensures capacity { self.old.words.capacity ≤ self.new.words.capacity }
@@ -142,9 +136,7 @@ impl Window {
 
     // The same where there is memory for all words from the first of these or those kept to the last.
     fn extend(&mut self, first: usize, end: usize) -> Result<(), AllocError>
-        requires some { first < end }
-        requires within { end ≤ 2 ^ 58 }
-        requires bounded { end_of self.old ≤ 2 ^ 58 }
+        requires { CanKeep first end self.old }
         ensures ok { OnOk result (Covers first end self.old self.new) }
         ensures err { OnErr result (self.new ≡ self.old) }
         ensures fits { span self.old.offset (length self.old.words.items) first end ≤ self.old.words.capacity →

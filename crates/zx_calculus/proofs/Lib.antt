@@ -34,6 +34,7 @@ pub mod Gadgets
 pub mod Steps
 pub mod Edits
 pub mod EditPrograms
+pub mod NewSpiders
 pub mod ReducedLemmas
 pub mod PhaseGateSum
 pub mod WorkedSums

@@ -1,6 +1,6 @@
 //! The circuit of a graph with a flow.
 
-ghost use Rattle.std.specs.Prelude.{◌≡◌, ◌≢◌, ◌≤◌, ◌*◌, ℕ, pos, [], length, IfOk};
+ghost use Rattle.std.specs.Prelude.{◌≡◌, ◌≢◌, ◌≤◌, ◌*◌, ℕ, pos, length, IfOk};
 ghost use Rattle.zx_calculus.specs.Graph.{plane_of, IsVertex};
 ghost use Rattle.zx_calculus.specs.Graph as zx;
 ghost use Rattle.zx_calculus.specs.Sum.{graph_sum};
@@ -11,7 +11,7 @@ ghost use Rattle.zx_gates.specs.Passes.{Implements};
 ghost use Rattle.open_graph.specs.OpenGraph.{most_vertices_in_memory};
 ghost use Rattle.zx_extract.specs.Extraction.{most_extracted_gates};
 ghost use Rattle.zx_extract.specs.Internal.Extracted.{IsCircuitOf, IsTakenApart};
-ghost use Rattle.zx_extract.specs.Internal.Frontiers.{remainder_of};
+ghost use Rattle.zx_extract.specs.Internal.Frontiers.{remainder_of, IsUntouched};
 
 use crate::frontier::Frontier;
 use open_graph::OpenGraph;
@@ -42,12 +42,7 @@ pub fn extract(alloc: Global, g: OpenGraph, f: Flow) -> Result<ScaledCircuit, Al
 impl Frontier {
     // Takes the graph apart, gate by gate, and answers the circuit of all gates.
     fn take_apart(&mut self) -> Result<ScaledCircuit, AllocError>
-        requires flow { IsFlow self.old.graph.graph self.old.flow.flow }
-        requires planes { (v : ℕ) → IsVertex self.old.graph.graph v →
-            plane_of self.old.graph.graph v ≢ zx.XZ }
-        requires ends { length self.old.graph.graph.inputs ≡ length self.old.graph.graph.outputs }
-        requires few { length self.old.graph.graph.outputs ≤ most_qubits }
-        requires none { self.old.gates.items ≡ [] }
+        requires { IsUntouched self.old }
         ensures { IfOk result (λ made. IsCircuitOf self.old.graph.graph made.gates made.scalar) }
     {
         // So the exponent of the scalar fits.
@@ -62,12 +57,7 @@ impl Frontier {
 
     // Takes off all gates but the Hadamards of the inputs, and answers how often the sum is doubled.
     fn take_all(&mut self) -> Result<u64, AllocError>
-        requires flow { IsFlow self.old.graph.graph self.old.flow.flow }
-        requires planes { (v : ℕ) → IsVertex self.old.graph.graph v →
-            plane_of self.old.graph.graph v ≢ zx.XZ }
-        requires ends { length self.old.graph.graph.inputs ≡ length self.old.graph.graph.outputs }
-        requires few { length self.old.graph.graph.outputs ≤ most_qubits }
-        requires none { self.old.gates.items ≡ [] }
+        requires { IsUntouched self.old }
         ensures { IfOk result (λ doublings.
             IsTakenApart doublings self.old.graph.graph (remainder_of self.new)) }
     {

@@ -91,14 +91,6 @@ impl Flow {
         self.corrections.set(v)
     }
 
-    /// A copy of the correction set of a vertex.
-    pub fn copy_of_correction(&self, v: VertexId) -> Result<VertexSet, AllocError>
-        requires { member v (order_of self.now.flow) ≡ true }
-        ensures { IfOk result (λ set. set.ids ≡ set_of self.now.flow v) }
-    {
-        self.corrections.set(v).clone()
-    }
-
     /// Whether a vertex w is a member of the correction set of v.
     pub fn has(&self, v: VertexId, w: VertexId) -> bool
         requires { member v (order_of self.now.flow) ≡ true }

@@ -7,8 +7,8 @@ use Rattle.zx_model.specs.Proportional.{Proportional}
 use Rattle.zx_model.proofs.Ring.{mul-one}
 use Rattle.zx_model.proofs.Powers.{root_power-half_turn, root_power-nonzero}
 use Rattle.zx_model.proofs.Domain.{mul_left_cancel}
-use Rattle.zx_model.proofs.ProportionalLemmas.{proportional_refl}
-use Rattle.zx_gates.specs.Maps.{amp}
+use Rattle.zx_model.proofs.ProportionalLemmas.{proportional_of_scaled, proportional_refl}
+use Rattle.zx_gates.specs.Maps.{amp, phase}
 use Rattle.zx_gates.specs.declared.gate.Gate.TheVariants.{Phase}
 use Rattle.zx_gates.proofs.MapLemmas.{act-phase, act-phase-phase, act-phase-zero}
 
@@ -34,25 +34,15 @@ each_pair P ff ft tf tt' a b = each_bit (λ a. P a b) (each_bit (P false) ff ft 
 
 pub on_one_qubit : (c d : Number) → c ≢ zero → d ≢ zero → (f g : List Bool → List Bool → Number)
     → ((a b : Bool) → mul c (f (a ∷ []) (b ∷ [])) ≡ mul d (g (a ∷ []) (b ∷ []))) → Proportional 1 1 f g
-on_one_qubit c d p q f g entries = record {
-  left = c;
-  right = d;
-  left_nonzero = p;
-  right_nonzero = q;
-  equal = λ x y lx ly. one_bit (λ x'. mul c (f x' y) ≡ mul d (g x' y)) x lx
-      (λ a. one_bit (λ y'. mul c (f (a ∷ []) y') ≡ mul d (g (a ∷ []) y')) y ly (λ b. entries a b));
-}
+on_one_qubit c d p q f g entries = proportional_of_scaled 1 1 f g c d p q
+    (λ x y lx ly. one_bit (λ x'. mul c (f x' y) ≡ mul d (g x' y)) x lx
+    (λ a. one_bit (λ y'. mul c (f (a ∷ []) y') ≡ mul d (g (a ∷ []) y')) y ly (λ b. entries a b)))
 
 pub on_two_qubits : (c d : Number) → c ≢ zero → d ≢ zero → (f g : List Bool → List Bool → Number)
     → ((a a' b b' : Bool) → mul c (f (a ∷ a' ∷ []) (b ∷ b' ∷ [])) ≡ mul d (g (a ∷ a' ∷ []) (b ∷ b' ∷ []))) → Proportional 2 2 f g
-on_two_qubits c d p q f g entries = record {
-  left = c;
-  right = d;
-  left_nonzero = p;
-  right_nonzero = q;
-  equal = λ x y lx ly. two_bits (λ x'. mul c (f x' y) ≡ mul d (g x' y)) x lx
-      (λ a a'. two_bits (λ y'. mul c (f (a ∷ a' ∷ []) y') ≡ mul d (g (a ∷ a' ∷ []) y')) y ly (λ b b'. entries a a' b b'));
-}
+on_two_qubits c d p q f g entries = proportional_of_scaled 2 2 f g c d p q
+    (λ x y lx ly. two_bits (λ x'. mul c (f x' y) ≡ mul d (g x' y)) x lx
+    (λ a a'. two_bits (λ y'. mul c (f (a ∷ a' ∷ []) y') ≡ mul d (g (a ∷ a' ∷ []) y')) y ly (λ b b'. entries a a' b b')))
 
 -- what is to hold at each pair of bits
 abbrev pub EachPair : (Bool → Bool → Type 0) → Type 0
@@ -90,22 +80,10 @@ pub half_turn_at_one : (b : Bool) → amp (Phase 0 half_turn ∷ []) (true ∷ [
 half_turn_at_one b =
     act-phase 0 half_turn (λ z. amp [] z (b ∷ [])) (true ∷ []) ∙ ap (λ r. mul r (amp [] (true ∷ []) (b ∷ []))) root_power-half_turn
 
--- the entries of T and S
-t_at_zero : amp (Phase 0 eighth_turn ∷ []) (false ∷ []) (false ∷ []) ≡ one
-unfolding add mul add_cyclotomic mul_cyclotomic
-t_at_zero = refl
-
-t_at_one : amp (Phase 0 eighth_turn ∷ []) (true ∷ []) (true ∷ []) ≡ root_power eighth_turn
-unfolding add mul root_power add_cyclotomic mul_cyclotomic
-t_at_one = refl
-
-s_at_zero : amp (Phase 0 quarter_turn ∷ []) (false ∷ []) (false ∷ []) ≡ one
-unfolding add mul add_cyclotomic mul_cyclotomic
-s_at_zero = refl
-
-s_at_one : amp (Phase 0 quarter_turn ∷ []) (true ∷ []) (true ∷ []) ≡ root_power quarter_turn
-unfolding add mul root_power add_cyclotomic mul_cyclotomic
-s_at_one = refl
+-- the entries of a phase gate at equal bits
+phase_entry : (k : ℕ) (b : Bool) → amp (Phase 0 k ∷ []) (b ∷ []) (b ∷ []) ≡ phase k b b
+phase_entry k false = act-phase 0 k (λ z. amp [] z (false ∷ [])) (false ∷ []) ∙ mul-one one
+phase_entry k true = act-phase 0 k (λ z. amp [] z (true ∷ [])) (true ∷ []) ∙ mul-one (root_power k)
 
 roots_differ : root_power eighth_turn ≡ root_power quarter_turn → ⊥
 unfolding add mul root_power add_cyclotomic mul_cyclotomic
@@ -115,8 +93,8 @@ roots_differ e = let h : pos 1 ≡ pos 0 = ap (λ x. x.plain.c1) e in cc
 pub not_proportional : Proportional 1 1 (amp (Phase 0 eighth_turn ∷ [])) (amp (Phase 0 quarter_turn ∷ [])) → ⊥
 not_proportional p =
     let at_zero : mul p.left one ≡ mul p.right one =
-    ap (mul p.left) (sym t_at_zero) ∙ p.equal (false ∷ []) (false ∷ []) refl refl ∙ ap (mul p.right) s_at_zero in
+    ap (mul p.left) (sym (phase_entry eighth_turn false)) ∙ p.equal (false ∷ []) (false ∷ []) refl refl ∙ ap (mul p.right) (phase_entry quarter_turn false) in
     let at_one : mul p.left (root_power eighth_turn) ≡ mul p.right (root_power quarter_turn) =
-    ap (mul p.left) (sym t_at_one) ∙ p.equal (true ∷ []) (true ∷ []) refl refl ∙ ap (mul p.right) s_at_one in
+    ap (mul p.left) (sym (phase_entry eighth_turn true)) ∙ p.equal (true ∷ []) (true ∷ []) refl refl ∙ ap (mul p.right) (phase_entry quarter_turn true) in
     let same : p.left ≡ p.right = sym (mul-one p.left) ∙ at_zero ∙ mul-one p.right in
     roots_differ (mul_left_cancel p.right (root_power eighth_turn) (root_power quarter_turn) p.right_nonzero (ap (λ c. mul c (root_power eighth_turn)) (sym same) ∙ at_one))

@@ -50,24 +50,9 @@ pub mul-neg : (a b : Cyclotomic) → mul_cyclotomic a (neg_cyclotomic b) ≡ neg
 unfolding neg_cyclotomic mul_cyclotomic
 mul-neg a b = same _ _ (simp expand_whole) (simp expand_whole) (simp expand_whole) (simp expand_whole)
 
-assoc-c0 : (a b c : Cyclotomic) → (mul_cyclotomic (mul_cyclotomic a b) c).c0 ≡ (mul_cyclotomic a (mul_cyclotomic b c)).c0
-unfolding mul_cyclotomic
-assoc-c0 a b c = simp expand_whole
-
-assoc-c1 : (a b c : Cyclotomic) → (mul_cyclotomic (mul_cyclotomic a b) c).c1 ≡ (mul_cyclotomic a (mul_cyclotomic b c)).c1
-unfolding mul_cyclotomic
-assoc-c1 a b c = simp expand_whole
-
-assoc-c2 : (a b c : Cyclotomic) → (mul_cyclotomic (mul_cyclotomic a b) c).c2 ≡ (mul_cyclotomic a (mul_cyclotomic b c)).c2
-unfolding mul_cyclotomic
-assoc-c2 a b c = simp expand_whole
-
-assoc-c3 : (a b c : Cyclotomic) → (mul_cyclotomic (mul_cyclotomic a b) c).c3 ≡ (mul_cyclotomic a (mul_cyclotomic b c)).c3
-unfolding mul_cyclotomic
-assoc-c3 a b c = simp expand_whole
-
 pub mul_assoc : (a b c : Cyclotomic) → mul_cyclotomic (mul_cyclotomic a b) c ≡ mul_cyclotomic a (mul_cyclotomic b c)
-mul_assoc a b c = same _ _ (assoc-c0 a b c) (assoc-c1 a b c) (assoc-c2 a b c) (assoc-c3 a b c)
+unfolding mul_cyclotomic
+mul_assoc a b c = same _ _ (simp expand_whole) (simp expand_whole) (simp expand_whole) (simp expand_whole)
 
 pub mul_left_comm : (a b c : Cyclotomic) → mul_cyclotomic a (mul_cyclotomic b c) ≡ mul_cyclotomic b (mul_cyclotomic a c)
 mul_left_comm a b c = sym (mul_assoc a b c) ∙ ap (λ x. mul_cyclotomic x c) (mul_comm a b) ∙ mul_assoc b a c

@@ -50,40 +50,30 @@ length-removal_of phase b = at_most (is_half_turns phase) (is_quarter_turn phase
     at_most false true = omega arith
     at_most false false = omega arith
 
-pub length-steps_of : (g : Graph) (m : Move) → length (steps_of g m) ≤ 6
-length-steps_of g (moves.Delete u) = omega arith
-length-steps_of g (moves.QuarterGadget u) = omega arith
-length-steps_of g (moves.FromXZ u) = omega arith
-length-steps_of g (moves.QuarterSpider u) = omega arith
-length-steps_of g (moves.InnerPivot u v) = omega arith
-length-steps_of g (moves.BoundaryPivot u b) =
+-- a move is made of one to six rewrites
+steps_of-count : (g : Graph) (m : Move) → (1 ≤ length (steps_of g m)) × (length (steps_of g m) ≤ 6)
+steps_of-count g (moves.Delete u) = (omega arith, omega arith)
+steps_of-count g (moves.QuarterGadget u) = (omega arith, omega arith)
+steps_of-count g (moves.FromXZ u) = (omega arith, omega arith)
+steps_of-count g (moves.QuarterSpider u) = (omega arith, omega arith)
+steps_of-count g (moves.InnerPivot u v) = (omega arith, omega arith)
+steps_of-count g (moves.BoundaryPivot u b) =
     together _ _ _
     (length-append (splits_of g b) (calculus.Pivot u b ∷ calculus.Delete u ∷ removal_of (phase_of g b) b))
     (length-splits_of g b) (length-removal_of (phase_of g b) b)
   where
-    together : (n k l : ℕ) → n ≡ k + suc (suc l) → k ≤ 2 → l ≤ 2 → n ≤ 6
-    together n k l e f h = omega arith
-length-steps_of g (moves.GadgetPair u v) = omega arith
-length-steps_of g (moves.LoneGadget u) = omega arith
-length-steps_of g (moves.SingleGadget u) = omega arith
-length-steps_of g (moves.Twins u v) = omega arith
+    together : (n k l : ℕ) → n ≡ k + suc (suc l) → k ≤ 2 → l ≤ 2 → (1 ≤ n) × (n ≤ 6)
+    together n k l e f h = (omega arith, omega arith)
+steps_of-count g (moves.GadgetPair u v) = (omega arith, omega arith)
+steps_of-count g (moves.LoneGadget u) = (omega arith, omega arith)
+steps_of-count g (moves.SingleGadget u) = (omega arith, omega arith)
+steps_of-count g (moves.Twins u v) = (omega arith, omega arith)
 
--- no move is without a rewrite
 pub steps_of-some : (g : Graph) (m : Move) → 1 ≤ length (steps_of g m)
-steps_of-some g (moves.Delete u) = omega arith
-steps_of-some g (moves.QuarterGadget u) = omega arith
-steps_of-some g (moves.FromXZ u) = omega arith
-steps_of-some g (moves.QuarterSpider u) = omega arith
-steps_of-some g (moves.InnerPivot u v) = omega arith
-steps_of-some g (moves.BoundaryPivot u b) =
-    some _ _ _ (length-append (splits_of g b) (calculus.Pivot u b ∷ calculus.Delete u ∷ removal_of (phase_of g b) b))
-  where
-    some : (n k l : ℕ) → n ≡ k + suc (suc l) → 1 ≤ n
-    some n k l e = omega arith
-steps_of-some g (moves.GadgetPair u v) = omega arith
-steps_of-some g (moves.LoneGadget u) = omega arith
-steps_of-some g (moves.SingleGadget u) = omega arith
-steps_of-some g (moves.Twins u v) = omega arith
+steps_of-some g m = (steps_of-count g m).0
+
+pub length-steps_of : (g : Graph) (m : Move) → length (steps_of g m) ≤ 6
+length-steps_of g m = (steps_of-count g m).1
 
 -- ---- moves
 pub AreMoves-run : (g : Graph) (n : ℕ) (steps : List calculus.Step) (h : Graph) → AreMoves g n steps h → IsRun g steps h

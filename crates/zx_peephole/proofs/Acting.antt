@@ -6,7 +6,7 @@ use Rattle.zx_model.specs.Number.{Number, zero, one, add, mul, sign}
 use Rattle.zx_model.specs.Bits.{xor, bit}
 use Rattle.zx_model.proofs.Ring.{expand, one-mul}
 use Rattle.zx_model.proofs.BitLemmas.{xor_left_comm}
-use Rattle.zx_gates.specs.Maps.{hadamard, exchange, phase, act}
+use Rattle.zx_gates.specs.Maps.{Matrix, hadamard, exchange, phase, act}
 use Rattle.zx_gates.specs.declared.gate.Gate.{Gate}
 use Rattle.zx_gates.specs.declared.gate.Gate.TheVariants.{H, Phase, Cz, Cx, Not}
 use Rattle.zx_gates.proofs.MapLemmas.{act-phase}
@@ -75,28 +75,21 @@ bits-other : (x : List Bool) (p r q : ℕ) (c : Bool) (f : Bool → Bool → Num
 bits-other x p r q c f off =
     let each = or_parts (eqb p q) (eqb r q) off in ap₂ f (bit-other x p q c each.0) (bit-other x r q c each.1)
 
+-- a gate of one qubit, by its matrix
+spreads_by : (g : Gate) (q : ℕ) (m : Matrix) → ((p : ℕ) → is_on p g ≡ eqb q p)
+    → ((f : List Bool → Number) (x : List Bool) → act g f x ≡ spread (λ y b. m b (bit y q)) q f x) → Spreads g
+spreads_by g q m on acts = record {
+  place = q;
+  weight = λ x b. m b (bit x q);
+  is = acts;
+  on = on q ∙ eq-eqb q q refl;
+  unseen = λ p off x c b. ap (m b) (bit-other x q p c (sym (on p) ∙ off));
+}
+
 pub spreads : (g : Gate) → Spreads g
-spreads (H q) = record {
-  place = q;
-  weight = λ x b. hadamard b (bit x q);
-  is = λ f x. refl;
-  on = eq-eqb q q refl;
-  unseen = λ p off x c b. ap (hadamard b) (bit-other x q p c off);
-}
-spreads (Phase q k) = record {
-  place = q;
-  weight = λ x b. phase k b (bit x q);
-  is = λ f x. refl;
-  on = eq-eqb q q refl;
-  unseen = λ p off x c b. ap (phase k b) (bit-other x q p c off);
-}
-spreads (Not q) = record {
-  place = q;
-  weight = λ x b. exchange b (bit x q);
-  is = λ f x. refl;
-  on = eq-eqb q q refl;
-  unseen = λ p off x c b. ap (exchange b) (bit-other x q p c off);
-}
+spreads (H q) = spreads_by (H q) q hadamard (λ p. refl) (λ f x. refl)
+spreads (Phase q k) = spreads_by (Phase q k) q (phase k) (λ p. refl) (λ f x. refl)
+spreads (Not q) = spreads_by (Not q) q exchange (λ p. refl) (λ f x. refl)
 spreads (Cz q r) = record {
   place = r;
   weight = λ x b. mul (sign (bit x q && bit x r)) (chosen (bit x r) b);

@@ -101,45 +101,43 @@ module _ (old : Chains) (reading : IsReading old) (w : Chains) (qubits : w.qubit
     on : IsOnQubits old.qubits p.pair.first
     on = (subst (IsGateOn old.qubits) first_is (reading.sound.on_qubits i inside p.first.left)).0
 
-    pub pair_one : (power : ℕ) → power ≡ doublings a → (x : Gate) → x ∷ [] ≡ merged a b → w.gates.items ≡ set (set old.gates.items i nothing) old.next x
-        → w.next ≡ old.next → IsAdvance old power w
-    pair_one power is x one gates next =
+    -- what is left in front stays but for the first, and what both come to stands before the others
+    pair_gone : (power : ℕ) → power ≡ doublings a → (x : Gate) → w.gates.items ≡ set (set old.gates.items i nothing) old.next x
+        → old.next ≤ w.next → kept w ≡ filter is_left (take old.next (set old.gates.items i nothing))
+        → drop w.next w.gates.items ≡ merged a b ++ drop (old.next + 1) old.gates.items → IsAdvance old power w
+    pair_gone power is x gates onward front rest =
         subst (λ (k : ℕ). IsAdvance old k w) (sym (is ∙ ap doublings same_first))
         (by_brings (doublings p.pair.first) (as_long i p.first x gates)
         (pair_brings old.qubits (kept old) (next_of old) (drop (old.next + 1) old.gates.items) (kept w) (drop w.next w.gates.items)
-        (left_before old i) p.pair on less
+        (left_before old i) p.pair on less (rest ∙ ap (λ xs. xs ++ drop (old.next + 1) old.gates.items) becomes))
+        (omega (arith, onward, ap length less, one_less (kept old) (next_of old) (left_before old i) p.pair)))
+      where
+        less : kept w ≡ remove (kept old) (left_before old i)
+        less = front ∙ front_gone i p.first x gates
+
+    pub pair_one : (power : ℕ) → power ≡ doublings a → (x : Gate) → x ∷ [] ≡ merged a b → w.gates.items ≡ set (set old.gates.items i nothing) old.next x
+        → w.next ≡ old.next → IsAdvance old power w
+    pair_one power is x one gates next =
+        pair_gone power is x gates (omega (arith, next))
+        (ap₂ (λ n xs. filter is_left (take n xs)) next gates
+        ∙ ap (filter is_left) (take-set (set old.gates.items i nothing) old.next x))
         (ap₂ drop next gates
         ∙ drop-set (set old.gates.items i nothing) old.next x (within i p.first x gates)
         ∙ ap (λ xs. x ∷ xs) (rest_stays i p.first x gates)
-        ∙ ap (λ xs. xs ++ drop (old.next + 1) old.gates.items) (one ∙ becomes)))
-        (omega (arith, next, ap length less, one_less (kept old) (next_of old) (left_before old i) p.pair)))
-      where
-        less : kept w ≡ remove (kept old) (left_before old i)
-        less =
-            ap₂ (λ n xs. filter is_left (take n xs)) next gates
-            ∙ ap (filter is_left) (take-set (set old.gates.items i nothing) old.next x)
-            ∙ front_gone i p.first x gates
+        ∙ ap (λ xs. xs ++ drop (old.next + 1) old.gates.items) one)
 
     pub pair_none : (power : ℕ) → power ≡ doublings a → [] ≡ merged a b → w.gates.items ≡ set (set old.gates.items i nothing) old.next nothing
         → w.next ≡ old.next + 1 → IsAdvance old power w
     pair_none power is none gates next =
-        subst (λ (k : ℕ). IsAdvance old k w) (sym (is ∙ ap doublings same_first))
-        (by_brings (doublings p.pair.first) (as_long i p.first nothing gates)
-        (pair_brings old.qubits (kept old) (next_of old) (drop (old.next + 1) old.gates.items) (kept w) (drop w.next w.gates.items)
-        (left_before old i) p.pair on less
+        pair_gone power is nothing gates (omega (arith, next))
+        (ap₂ (λ n xs. filter is_left (take n xs)) next gates
+        ∙ ap (filter is_left) (take_more_set (set old.gates.items i nothing) old.next nothing (within i p.first nothing gates))
+        ∙ filter-append is_left (take old.next (set old.gates.items i nothing)) (nothing ∷ [])
+        ∙ append-nil (filter is_left (take old.next (set old.gates.items i nothing))))
         (ap₂ drop next gates
         ∙ drop-set-lt (old.next + 1) (set old.gates.items i nothing) old.next nothing (omega arith)
         ∙ rest_stays i p.first nothing gates
-        ∙ ap (λ xs. xs ++ drop (old.next + 1) old.gates.items) (none ∙ becomes)))
-        (omega (arith, next, ap length less, one_less (kept old) (next_of old) (left_before old i) p.pair)))
-      where
-        less : kept w ≡ remove (kept old) (left_before old i)
-        less =
-            ap₂ (λ n xs. filter is_left (take n xs)) next gates
-            ∙ ap (filter is_left) (take_more_set (set old.gates.items i nothing) old.next nothing (within i p.first nothing gates))
-            ∙ filter-append is_left (take old.next (set old.gates.items i nothing)) (nothing ∷ [])
-            ∙ append-nil (filter is_left (take old.next (set old.gates.items i nothing)))
-            ∙ front_gone i p.first nothing gates
+        ∙ ap (λ xs. xs ++ drop (old.next + 1) old.gates.items) none)
 
   -- two gates are gone, and the one of them that stood later is turned over
   module _ (i j : ℕ) (t : IsTripleAt old i j) (g : Gate) (g_read : g ≡ get_or old.gates.items j g) where

@@ -66,6 +66,12 @@ pub free_joined : (gates : List Gate) (g : Gate) (k m n : ℕ) → IsFreeBetween
 free_joined gates g k m n first second = λ j low high left.
     elim (cases_lt j m) [ inl before ↦ first j low before left | inr past ↦ second j past high left ]
 
+-- nothing between a walk and the nearest gate stops
+pub free_behind : (gates : List Gate) (g : Gate) (walk : Walk) (i n : ℕ) → IsWalk gates g walk → IsNearest walk i
+    → IsFreeBetween gates g walk.place n → IsFreeBetween gates g (i + 1) n
+free_behind gates g walk i n w near free =
+    free_joined gates g (i + 1) walk.place n (walk_free gates g walk (i + 1) w near.first near.second) free
+
 pub free_here : (gates : List Gate) (g : Gate) (i n : ℕ) → stops g (gate_at gates i) ≡ false
     → IsFreeBetween gates g (i + 1) n → IsFreeBetween gates g i n
 free_here gates g i n here behind = λ j low high left.

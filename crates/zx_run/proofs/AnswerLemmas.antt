@@ -1,5 +1,5 @@
 -- What an answer says of the streams, of the command that was given, and of the text.
-use Rattle.std.proofs.Common.{◌≡◌, ◌≢◌, ◌⊎◌, inl, inr, ℕ, List, [], refl, sym, ap, subst, Bool, true, false, Option, None, Some, Result, IfErr}
+use Rattle.std.proofs.Common.{◌≡◌, ◌≢◌, ◌⊎◌, inl, inr, ℕ, List, [], refl, sym, ap, subst, Bool, true, false, Option, None, Some, Result, Ok}
 use Rattle.std.specs.Prelude.{IsErrAnd}
 use Rattle.std.proofs.lemmas.Result.{err_from_is_err_and}
 use Rattle.zx_io.specs.Causes.{Rose}
@@ -9,10 +9,11 @@ use Rattle.zx_run.specs.declared.status.Fault.{Fault}
 use Rattle.zx_run.specs.declared.status.Fault.TheVariants.{TooLong}
 use Rattle.zx_run.specs.declared.status.Status.{Status}
 use Rattle.zx_run.specs.declared.status.Status.TheVariants.{Done, Refused, Usage, ReadFault, WriteFault, NoMemory, No}
+use Rattle.zx_run.specs.declared.written.Written.{Written}
 use Rattle.zx_run.specs.Outcome.{GainsNoFor, GainsOutputFor, GainsPrefixFor, IsAnswerOfGen, IsFaultlessFor, IsFirstFaultFor, IsGen, IsNoFor}
 use Rattle.zx_run.specs.Outcome.{IsOrNoMemory, IsOutputFor, MayAnswer, ReadsSource, SaysEnd, IsFailed, IsOrFailedRead}
 use Rattle.zx_run.specs.Answers.{ToldSource, Streams, IsAnswer, IsMade, IsOutputOf, IsFailure, IsLeftOf, Reads}
-use Rattle.zx_run.specs.Internal.Parts.{IsReadFailure}
+use Rattle.zx_run.specs.Internal.Parts.{IsReadFailure, Makes}
 use Rattle.zx_run.proofs.CommandLemmas.{one_fault, fault_or_none, output_answers, no_answers}
 
 -- where nothing was read there is no output, for the same reason
@@ -26,19 +27,27 @@ read_failure command reads before after Usage why = absurd why
 read_failure command reads before after WriteFault why = absurd why
 read_failure command reads before after No why = absurd why
 
--- so it is where the reader's answer is passed on
-pub reader_failed : {T : Type 0} (command : Command) → ReadsSource command → (before after : ToldSource) (result : Result T Status) (status : Status)
-    → IsErrAnd result (λ s. s ≡ status) → IsReadFailure (IsFirstFaultFor command) before after status → IfErr result (IsFailure (Some command) before after)
+-- so it is where the reader's answer is passed on, and where memory runs out
+pub reader_failed : (command : Command) → ReadsSource command → (before after : ToldSource) (result : Result Written Status) (status : Status)
+    → IsErrAnd result (λ s. s ≡ status) → IsReadFailure (IsFirstFaultFor command) before after status → Makes command before after result
 reader_failed command reads before after result status passed why =
     let p = err_from_is_err_and result passed in
-    let fails : Status → Type 0 = IsFailure (Some command) before after in
-    subst (λ r. IfErr r fails) (sym p.1) (subst fails (sym p.2) (read_failure command reads before after status why))
+    subst (Makes command before after) (sym p.1)
+    (record { made = tt; failure = subst (IsFailure (Some command) before after) (sym p.2) (read_failure command reads before after status why) })
 
 -- what was made of a source that was read to its end
-pub made_of_all : {given : Option Command} {before after : ToldSource} {says_no : Bool} {bytes : List ℕ} → after.faults ≡ before.faults
-    → IsOutputOf given says_no before.left bytes → ((text : List ℕ) → before.left ≡ Some text → after.left ≡ Some [])
-    → IsMade given before after says_no bytes
-made_of_all well output end = record { reads_well = well; output = output; all_read = λ reads. end }
+pub made_of_all : {command : Command} {before after : ToldSource} {written : Written} → after.faults ≡ before.faults
+    → IsOutputOf (Some command) written.is_no before.left written.bytes.items
+    → ((text : List ℕ) → before.left ≡ Some text → after.left ≡ Some []) → Makes command before after (Ok written)
+made_of_all well output end = record { made = record { reads_well = well; output = output; all_read = λ reads. end }; failure = tt }
+
+-- the same of a command that is done
+pub done_of_all : (command : Command) (before after : ToldSource) (written : Written) (bytes : List ℕ) → written.bytes.items ≡ bytes → written.is_no ≡ false
+    → after.faults ≡ before.faults → IsOutputFor command before.left bytes
+    → ((text : List ℕ) → before.left ≡ Some text → after.left ≡ Some []) → Makes command before after (Ok written)
+done_of_all command before after written bytes same done well output end =
+    made_of_all well
+    (subst (λ b. IsOutputOf (Some command) b before.left written.bytes.items) (sym done) (subst (IsOutputFor command before.left) (sym same) output)) end
 
 -- the answer that the bytes are written with
 abbrev answer_of : Bool → Status

@@ -1,7 +1,7 @@
 -- What the answer is where nothing was read, or what was read is refused.
-use Rattle.std.proofs.Common.{◌≡◌, ◌<◌, ◌≤◌, ◌+◌, ℕ, List, [], length, Option, Some, Result, IfErr, refl, sym, ap, ◌∙◌, subst, arith}
+use Rattle.std.proofs.Common.{◌≡◌, ◌<◌, ◌≤◌, ◌+◌, ℕ, List, [], length, Option, Some, Result, Ok, Err, IfErr, refl, sym, ap, ◌∙◌, subst, arith}
 use Rattle.std.specs.Prelude.{IsErrAnd}
-use Rattle.std.proofs.lemmas.Result.{err_from_is_err_and, IfErr-weaker}
+use Rattle.std.proofs.lemmas.Result.{err_from_is_err_and}
 use Rattle.std.proofs.lemmas.List.{drop_all}
 use Rattle.zx_io.specs.Causes.{Rose}
 use Rattle.zx_io.specs.declared.errors.ReadError.{ReadError}
@@ -12,7 +12,7 @@ use Rattle.zx_run.specs.declared.status.Status.TheVariants.{Done, Refused, Usage
 use Rattle.zx_run.specs.Internal.ErrorAnswers.{answer_to_read_error}
 use Rattle.zx_run.specs.FirstFault.{most_bytes}
 use Rattle.zx_run.specs.Answers.{ToldSource, IsLeftOf}
-use Rattle.zx_run.specs.Internal.Parts.{IsReadFailure}
+use Rattle.zx_run.specs.Internal.Parts.{IsRead, IsReadFailure}
 use Rattle.zx_run.specs.Internal.Refusals.{IsTooLong, IsRefusalFor}
 
 -- nothing follows the bytes of a text that isn't too long
@@ -72,20 +72,24 @@ refusal_failed first bytes before after short well all Usage why = absurd why
 refusal_failed first bytes before after short well all WriteFault why = absurd why
 refusal_failed first bytes before after short well all No why = absurd why
 
+-- nothing was read
+pub unread : {T : Type 0} {first : List ℕ → Fault → Type 0} {before after : ToldSource} {status : Status}
+    → IsReadFailure first before after status → IsRead {T = T} first before after (Err status)
+unread why = record { reads_well = tt; end = λ text told. tt; failure = why }
+
 -- not all bytes were read, and the reader's answer is passed on
 pub bytes_failed : {T : Type 0} (first : List ℕ → Fault → Type 0) → ((text : List ℕ) (fault : Fault) → IsTooLong text fault → first text fault)
     → (before after : ToldSource) (result : Result T Status) (status : Status) → IsErrAnd result (λ s. s ≡ status)
-    → IsReadFailure IsTooLong before after status → IfErr result (IsReadFailure first before after)
+    → IsReadFailure IsTooLong before after status → IsRead first before after result
 bytes_failed first give before after result status passed why =
     let p = err_from_is_err_and result passed in
-    let fails : Status → Type 0 = IsReadFailure first before after in
-    subst (λ r. IfErr r fails) (sym p.1) (subst fails (sym p.2) (failed_by IsTooLong first give before after status why))
+    subst (IsRead first before after) (sym p.1) (unread (subst (IsReadFailure first before after) (sym p.2) (failed_by IsTooLong first give before after status why)))
 
 -- they were, and what they say is refused
 pub text_refused : {T : Type 0} (first : List ℕ → Fault → Type 0) (bytes lent : List ℕ) (before after : ToldSource) (result : Result T Status)
     → lent ≡ bytes → length bytes ≤ most_bytes → after.faults ≡ before.faults → ((text : List ℕ) → before.left ≡ Some text → bytes ≡ text)
     → ((text : List ℕ) → before.left ≡ Some text → after.left ≡ Some []) → IfErr result (IsRefusalFor (first lent))
-    → IfErr result (IsReadFailure first before after)
-text_refused first bytes lent before after result same short well all end =
-    IfErr-weaker result _ _
-    (refusal_failed first lent before after (subst (λ b. length b ≤ most_bytes) (sym same) short) well (λ text told. (same ∙ all text told, end text told)))
+    → IsRead first before after result
+text_refused first bytes lent before after (Ok read) same short well all end why = record { reads_well = well; end = end; failure = tt }
+text_refused first bytes lent before after (Err status) same short well all end why =
+    unread (refusal_failed first lent before after (subst (λ b. length b ≤ most_bytes) (sym same) short) well (λ text told. (same ∙ all text told, end text told)) status why)

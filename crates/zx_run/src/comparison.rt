@@ -1,11 +1,10 @@
 //! From the two circuits that are read to the line about whether they are the same.
 
-ghost use Rattle.std.specs.Prelude.{◌≡◌, true, false, List, ℕ, Contains, None, IfNone, IfOk, IfSome};
+ghost use Rattle.std.specs.Prelude.{◌≡◌, true, false, Contains, None, IfNone, IfOk, IfSome};
 ghost use Rattle.zx_gates.specs.declared.elementary.Measure.{Measure as Measured};
 ghost use Rattle.zx_gates.specs.Elementary.{IsElementary};
 ghost use Rattle.zx_run.specs.Comparing.{HaveSameMeasures, HaveSameWidths};
-ghost use Rattle.zx_run.specs.TwoTexts.{AreAccepted};
-ghost use Rattle.zx_run.specs.Internal.Verdicts.{HasLeft, IsComparison, IsComparisonOf};
+ghost use Rattle.zx_run.specs.Internal.Verdicts.{HasLeft, IsComparisonOf};
 
 use crate::written::Written;
 use std::alloc::{AllocError, Global};
@@ -24,17 +23,6 @@ pub fn comparison_text(
 ) -> Result<Written, AllocError>
     requires one { IsElementary one.now }
     requires other { IsElementary other.now }
-    ensures { (text : List ℕ) → AreAccepted text one.now other.now
-        → IfOk result (λ written. IsComparison text written.bytes.items written.is_no) }
-{
-    let written = line_about(alloc, one, other)?;
-    Ok(written)
-}
-
-// The line about two circuits.
-fn line_about(alloc: Global, one: &Elementary, other: &Elementary) -> Result<Written, AllocError>
-    requires one { IsElementary one.now }
-    requires other { IsElementary other.now }
     ensures { IfOk result (λ written.
         IsComparisonOf one.now other.now written.bytes.items written.is_no) }
 {
@@ -42,11 +30,11 @@ fn line_about(alloc: Global, one: &Elementary, other: &Elementary) -> Result<Wri
         let these = one.qubits;
         let those = other.qubits;
         let line = format!(in alloc; "widths {these} {those}\n")?;
-        return Ok(no(line.into_bytes()));
+        return Ok(Written::no(line.into_bytes()));
     }
     if !have_same_measures(one, other) {
         let line = format!(in alloc; "measures differ\n")?;
-        return Ok(no(line.into_bytes()));
+        return Ok(Written::no(line.into_bytes()));
     }
     line_about_gates(alloc, one, other)
 }
@@ -67,6 +55,7 @@ fn line_about_gates(
     let first = lower(alloc, one)?;
     let second = lower(alloc, other)?;
     let found = left_of(alloc, &first.gates, &second.gates)?;
+    // Dropped before the next exit, whose proof would speak of each value that is alive there.
     drop(first);
     drop(second);
     let left = gates_left(&found);
@@ -78,7 +67,7 @@ fn line_about_gates(
         }
         Some(count) => {
             let line = format!(in alloc; "not shown {count}\n")?;
-            Ok(no(line.into_bytes()))
+            Ok(Written::no(line.into_bytes()))
         }
     }
 }
@@ -92,14 +81,6 @@ fn gates_left(found: &Option<GateList>) -> Option<usize>
         None => None,
         Some(left) => Some(left.gates().len()),
     }
-}
-
-// What is written by a command that says no.
-fn no(bytes: Vec<u8>) -> Written
-    ensures bytes { result.bytes ≡ bytes }
-    ensures no { result.is_no ≡ true }
-{
-    Written { bytes, is_no: true }
 }
 
 // Whether two circuits have as many bits and the same measurements.

@@ -34,7 +34,7 @@ pub fn compiled_text(alloc: Global, diagram: Diagram) -> Result<Written, AllocEr
         }
         Compiled::NoFlow { left } => {
             let bytes = no_flow_line(alloc, &left)?;
-            Ok(Written { bytes, is_no: true })
+            Ok(Written::no(bytes))
         }
     }
 }

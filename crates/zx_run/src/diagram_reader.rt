@@ -1,12 +1,12 @@
 //! Reading: from a source to the diagram that its file spells.
 
-ghost use Rattle.std.specs.Prelude.{◌≡◌, ◌≤◌, List, ℕ, [], Some, length, IfOk, IfErr, OnOk};
+ghost use Rattle.std.specs.Prelude.{◌≡◌, ◌≤◌, List, ℕ, Some, length, IfOk, IfErr};
 ghost use Rattle.zx_text.specs.Reading.{most_ends};
 ghost use Rattle.zx_run.specs.DiagramFiles.{IsDiagramFile, IsSquare, IsFirstDiagramFault, IsFirstSquareFault};
 ghost use Rattle.zx_run.specs.Internal.ErrorAnswers.{answer_to_file_error};
 ghost use Rattle.zx_run.specs.FirstFault.{most_bytes};
 ghost use Rattle.zx_run.specs.Answers.{told_source};
-ghost use Rattle.zx_run.specs.Internal.Parts.{IsReadFailure};
+ghost use Rattle.zx_run.specs.Internal.Parts.{IsRead};
 ghost use Rattle.zx_run.specs.Internal.Refusals.{IsRefusalFor};
 
 use crate::input::read_bytes;
@@ -25,11 +25,8 @@ use zx_io::Source;
 pub fn read_diagram_file<S: Source>(alloc: Global, source: &mut S) -> Result<Diagram, Status>
     ensures spelled { (text : List ℕ) → S.left source.old ≡ Some text
         → IfOk result (λ diagram. IsDiagramFile text diagram) }
-    ensures reads_well { OnOk result (S.faults source.new ≡ S.faults source.old) }
-    ensures end { (text : List ℕ) → S.left source.old ≡ Some text
-        → OnOk result (S.left source.new ≡ Some []) }
-    ensures failure { IfErr result (IsReadFailure IsFirstDiagramFault
-        (told_source S.left S.faults source.old) (told_source S.left S.faults source.new)) }
+    ensures read { IsRead IsFirstDiagramFault
+        (told_source S.left S.faults source.old) (told_source S.left S.faults source.new) result }
 {
     let bytes = read_bytes(alloc, source)?;
     diagram_of(alloc, &bytes)
@@ -45,11 +42,8 @@ pub fn read_square_diagram<S: Source>(alloc: Global, source: &mut S) -> Result<D
         → IfOk result (λ diagram. IsDiagramFile text diagram) }
     ensures square { IfOk result (λ diagram. IsSquare diagram) }
     ensures few { IfOk result (λ diagram. length diagram.inputs ≤ most_ends) }
-    ensures reads_well { OnOk result (S.faults source.new ≡ S.faults source.old) }
-    ensures end { (text : List ℕ) → S.left source.old ≡ Some text
-        → OnOk result (S.left source.new ≡ Some []) }
-    ensures failure { IfErr result (IsReadFailure IsFirstSquareFault
-        (told_source S.left S.faults source.old) (told_source S.left S.faults source.new)) }
+    ensures read { IsRead IsFirstSquareFault
+        (told_source S.left S.faults source.old) (told_source S.left S.faults source.new) result }
 {
     let bytes = read_bytes(alloc, source)?;
     square_diagram_of(alloc, &bytes)

@@ -1,11 +1,11 @@
 //! Reading: from a source to the graph and the table of corrections that its file spells.
 
-ghost use Rattle.std.specs.Prelude.{◌≡◌, List, ℕ, [], Some, IfOk, IfErr, OnOk};
+ghost use Rattle.std.specs.Prelude.{◌≡◌, List, ℕ, Some, IfOk};
 ghost use Rattle.gflow_laws.specs.Flow.{IsTableOf};
 ghost use Rattle.gflow_laws.specs.Seen.{seen};
 ghost use Rattle.zx_run.specs.FlowFiles.{IsFileOf, IsFirstFileFault};
 ghost use Rattle.zx_run.specs.Answers.{told_source};
-ghost use Rattle.zx_run.specs.Internal.Parts.{IsReadFailure};
+ghost use Rattle.zx_run.specs.Internal.Parts.{IsRead};
 
 use crate::input::MOST_BYTES;
 use crate::status::Status;
@@ -28,13 +28,9 @@ pub fn read_flow_file<S: Source>(
     ensures spelled { (text : List ℕ) → S.left source.old ≡ Some text
         → IfOk result (λ read. IsFileOf text read.0.graph read.1.table) }
     ensures table { IfOk result (λ read. IsTableOf (seen read.0.graph) read.1.table) }
-    ensures reads_well { OnOk result (S.faults source.new ≡ S.faults source.old) }
-    ensures end { (text : List ℕ) → S.left source.old ≡ Some text
-        → OnOk result (S.left source.new ≡ Some []) }
-    ensures failure { IfErr result (IsReadFailure IsFirstFileFault
-        (told_source S.left S.faults source.old) (told_source S.left S.faults source.new)) }
+    ensures read { IsRead IsFirstFileFault
+        (told_source S.left S.faults source.old) (told_source S.left S.faults source.new) result }
 {
     let bytes = read_all(alloc, source, MOST_BYTES)?;
-    let read = read_graph_with_flow(alloc, &bytes)?;
-    Ok(read)
+    Ok(read_graph_with_flow(alloc, &bytes)?)
 }

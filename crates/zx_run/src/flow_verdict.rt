@@ -38,10 +38,7 @@ fn verdict_on(alloc: Global, graph: &OpenGraph, table: &FlowTable) -> Result<Wri
         Verdict::Flow => {
             let mut bytes = Vec::new(alloc);
             bytes.extend_from_slice(b"flow\n")?;
-            Ok(Written {
-                bytes,
-                is_no: false,
-            })
+            Ok(Written::done(bytes))
         }
         Verdict::Fails { vertex, condition } => failure(alloc, vertex, condition),
     }
@@ -59,10 +56,7 @@ pub fn failure(alloc: Global, vertex: VertexId, condition: Condition) -> Result<
     let number = vertex.get();
     let name = condition_name(condition);
     let line = format!(in alloc; "fails {number} {name}\n")?;
-    Ok(Written {
-        bytes: line.into_bytes(),
-        is_no: true,
-    })
+    Ok(Written::no(line.into_bytes()))
 }
 
 // The name of a condition.

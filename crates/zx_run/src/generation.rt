@@ -5,7 +5,7 @@ ghost use Rattle.zx_gates.specs.Circuit.{most_qubits};
 ghost use Rattle.zx_gen.specs.Generator.{most_drawn_gates};
 ghost use Rattle.zx_run.specs.CircuitTexts.{IsGenerationReport, generation_line};
 
-use crate::reporting::report_lines;
+use crate::output::report_lines;
 use std::alloc::{AllocError, Global};
 use zx_gates::Qubit;
 use zx_gen::generate;

@@ -28,6 +28,5 @@ pub fn read_bytes<S: Source>(alloc: Global, source: &mut S) -> Result<Vec<u8>, S
     ensures failure { IfErr result (IsReadFailure IsTooLong
         (told_source S.left S.faults source.old) (told_source S.left S.faults source.new)) }
 {
-    let bytes = read_all(alloc, source, MOST_BYTES)?;
-    Ok(bytes)
+    Ok(read_all(alloc, source, MOST_BYTES)?)
 }

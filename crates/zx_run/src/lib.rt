@@ -24,7 +24,6 @@
 //!   text, its report and its scalar.
 //! - `teleporting`: `lower`, `teleport` and `write_text`.
 //! - `generation`: the circuit of a seed, optimised.
-//! - `reporting`: the report of the circuits read and written.
 //! - `flow_reader`: from a source to the graph and the table of corrections that its file spells,
 //!   or why there is none.
 //! - `flow_verdict`: `check`, and the line of its verdict.
@@ -54,7 +53,6 @@ mod output;
 mod program;
 mod reader;
 mod reduction;
-mod reporting;
 mod status;
 mod teleporting;
 mod two_reader;

@@ -2,16 +2,17 @@
 
 ghost use Rattle.std.specs.Prelude.{◌≡◌, ◌++◌, List, ℕ, IfOk, OnOk};
 ghost use Rattle.zx_gates.specs.Elementary.{IsElementary};
+ghost use Rattle.zx_report.specs.Report.{report_lines};
+ghost use Rattle.zx_optimise.specs.Optimising.{counts_of};
 ghost use Rattle.zx_run.specs.FirstFault.{IsAccepted};
 ghost use Rattle.zx_run.specs.CircuitTexts.{IsOptimisedText, report_if, scalar_if};
 
-use crate::reporting::report_lines;
 use qasm_writer::{text_scalar, write_text};
 use std::alloc::{AllocError, Global};
-use zx_gates::{Elementary, GateList, lower};
+use zx_gates::{Elementary, GateList, counts, lower};
 use zx_model::Scalar;
 use zx_optimise::optimise;
-use zx_report::scalar_line;
+use zx_report::{report, scalar_line};
 
 /// The text of the optimised circuit with the measurements behind the one that is read, and with a
 /// report and the line of the scalar between the two maps where they are asked for.
@@ -58,6 +59,18 @@ fn report_if(
         return Ok(Vec::new(alloc));
     }
     report_lines(alloc, read, made)
+}
+
+/// The lines of how many gates of each kind the circuit has that was read, and the one that was made.
+///
+/// # Errors
+///
+/// Only where memory runs out.
+pub fn report_lines(alloc: Global, read: &GateList, made: &GateList) -> Result<Vec<u8>, AllocError>
+    ensures { IfOk result (λ lines. lines.items
+        ≡ report_lines (counts_of read.now.gates) (counts_of made.now.gates)) }
+{
+    report(alloc, &counts(read), &counts(made))
 }
 
 // Adds the line of a scalar where it is asked for, and else nothing.

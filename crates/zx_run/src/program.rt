@@ -11,6 +11,7 @@ ghost use Rattle.zx_run.specs.Outcome.{Gains, GainsNoFor, GainsOutputFor, GainsP
 ghost use Rattle.zx_run.specs.Outcome.{IsFailed, IsFaultlessFor, IsFirstFaultFor, IsOrFailedRead, LeavesOutput, MayAnswer, ReadsSource, SaysEnd};
 ghost use Rattle.zx_run.specs.ErrorLine.{error_line};
 ghost use Rattle.zx_run.specs.Answers.{IsAnswer, IsFailure, IsMade, Reads, streams, told_output, told_source};
+ghost use Rattle.zx_run.specs.Internal.Parts.{Makes};
 
 use crate::comparison::comparison_text;
 use crate::compilation::compiled_text;
@@ -200,10 +201,7 @@ pub fn made<S: Source>(alloc: Global, command: Command, source: &mut S) -> Resul
             gates,
         } => {
             let bytes = generation_report(alloc, seed, qubits, gates)?;
-            Ok(Written {
-                bytes,
-                is_no: false,
-            })
+            Ok(Written::done(bytes))
         }
     }
 }
@@ -216,100 +214,66 @@ fn output_of_opt<S: Source>(
     scalar: bool,
     source: &mut S,
 ) -> Result<Written, Status>
-    ensures made { IfOk result (λ output. IsMade (Some (Optimise best report scalar))
-        (told_source S.left S.faults source.old) (told_source S.left S.faults source.new)
-        output.is_no output.bytes.items) }
-    ensures failure { IfErr result (IsFailure (Some (Optimise best report scalar))
-        (told_source S.left S.faults source.old) (told_source S.left S.faults source.new)) }
+    ensures { Makes (Optimise best report scalar)
+        (told_source S.left S.faults source.old) (told_source S.left S.faults source.new) result }
 {
     let read = read_circuit(alloc, source)?;
     let bytes = optimised_text(alloc, &read, best, report, scalar)?;
-    Ok(Written {
-        bytes,
-        is_no: false,
-    })
+    Ok(Written::done(bytes))
 }
 
 // What `teleport` writes for the text that the source gives.
 fn output_of_teleport<S: Source>(alloc: Global, source: &mut S) -> Result<Written, Status>
-    ensures made { IfOk result (λ output. IsMade (Some Teleport)
-        (told_source S.left S.faults source.old) (told_source S.left S.faults source.new)
-        output.is_no output.bytes.items) }
-    ensures failure { IfErr result (IsFailure (Some Teleport)
-        (told_source S.left S.faults source.old) (told_source S.left S.faults source.new)) }
+    ensures { Makes Teleport
+        (told_source S.left S.faults source.old) (told_source S.left S.faults source.new) result }
 {
     let read = read_circuit(alloc, source)?;
     let bytes = teleported_text(alloc, &read)?;
-    Ok(Written {
-        bytes,
-        is_no: false,
-    })
+    Ok(Written::done(bytes))
 }
 
 // What `reduce` writes for the file that the source gives.
 fn output_of_reduce<S: Source>(alloc: Global, source: &mut S) -> Result<Written, Status>
-    ensures made { IfOk result (λ output. IsMade (Some Reduce)
-        (told_source S.left S.faults source.old) (told_source S.left S.faults source.new)
-        output.is_no output.bytes.items) }
-    ensures failure { IfErr result (IsFailure (Some Reduce)
-        (told_source S.left S.faults source.old) (told_source S.left S.faults source.new)) }
+    ensures { Makes Reduce
+        (told_source S.left S.faults source.old) (told_source S.left S.faults source.new) result }
 {
     let (graph, table) = read_flow_file(alloc, source)?;
-    let output = reduction(alloc, graph, table)?;
-    Ok(output)
+    Ok(reduction(alloc, graph, table)?)
 }
 
 // What `flow` writes for the file that the source gives.
 fn output_of_flow<S: Source>(alloc: Global, source: &mut S) -> Result<Written, Status>
-    ensures made { IfOk result (λ output. IsMade (Some Flow)
-        (told_source S.left S.faults source.old) (told_source S.left S.faults source.new)
-        output.is_no output.bytes.items) }
-    ensures failure { IfErr result (IsFailure (Some Flow)
-        (told_source S.left S.faults source.old) (told_source S.left S.faults source.new)) }
+    ensures { Makes Flow
+        (told_source S.left S.faults source.old) (told_source S.left S.faults source.new) result }
 {
     let (graph, table) = read_flow_file(alloc, source)?;
-    let output = flow_verdict(alloc, graph, table)?;
-    Ok(output)
+    Ok(flow_verdict(alloc, graph, table)?)
 }
 
 // What `graph` writes for the file that the source gives.
 fn output_of_graph<S: Source>(alloc: Global, source: &mut S) -> Result<Written, Status>
-    ensures made { IfOk result (λ output. IsMade (Some Graph)
-        (told_source S.left S.faults source.old) (told_source S.left S.faults source.new)
-        output.is_no output.bytes.items) }
-    ensures failure { IfErr result (IsFailure (Some Graph)
-        (told_source S.left S.faults source.old) (told_source S.left S.faults source.new)) }
+    ensures { Makes Graph
+        (told_source S.left S.faults source.old) (told_source S.left S.faults source.new) result }
 {
     let diagram = read_diagram_file(alloc, source)?;
     let bytes = graph_text(alloc, diagram)?;
-    Ok(Written {
-        bytes,
-        is_no: false,
-    })
+    Ok(Written::done(bytes))
 }
 
 // What `compile` writes for the file that the source gives.
 fn output_of_compile<S: Source>(alloc: Global, source: &mut S) -> Result<Written, Status>
-    ensures made { IfOk result (λ output. IsMade (Some Compile)
-        (told_source S.left S.faults source.old) (told_source S.left S.faults source.new)
-        output.is_no output.bytes.items) }
-    ensures failure { IfErr result (IsFailure (Some Compile)
-        (told_source S.left S.faults source.old) (told_source S.left S.faults source.new)) }
+    ensures { Makes Compile
+        (told_source S.left S.faults source.old) (told_source S.left S.faults source.new) result }
 {
     let diagram = read_square_diagram(alloc, source)?;
-    let output = compiled_text(alloc, diagram)?;
-    Ok(output)
+    Ok(compiled_text(alloc, diagram)?)
 }
 
 // What `same` writes for the two texts that the source gives.
 fn output_of_same<S: Source>(alloc: Global, source: &mut S) -> Result<Written, Status>
-    ensures made { IfOk result (λ output. IsMade (Some Same)
-        (told_source S.left S.faults source.old) (told_source S.left S.faults source.new)
-        output.is_no output.bytes.items) }
-    ensures failure { IfErr result (IsFailure (Some Same)
-        (told_source S.left S.faults source.old) (told_source S.left S.faults source.new)) }
+    ensures { Makes Same
+        (told_source S.left S.faults source.old) (told_source S.left S.faults source.new) result }
 {
     let (one, other) = read_two_circuits(alloc, source)?;
-    let output = comparison_text(alloc, &one, &other)?;
-    Ok(output)
+    Ok(comparison_text(alloc, &one, &other)?)
 }

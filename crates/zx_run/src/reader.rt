@@ -1,11 +1,11 @@
 //! Reading: from a source to the circuit that its text means.
 
-ghost use Rattle.std.specs.Prelude.{◌≡◌, List, ℕ, [], Some, IfOk, IfErr, OnOk};
+ghost use Rattle.std.specs.Prelude.{◌≡◌, List, ℕ, Some, IfOk};
 ghost use Rattle.zx_gates.specs.Elementary.{IsElementary};
 ghost use Rattle.zx_run.specs.FirstFault.{IsAccepted, IsFirstFault, fault_of};
 ghost use Rattle.zx_run.specs.Internal.ErrorAnswers.{answer_to_read_error, answer_to_text_error};
 ghost use Rattle.zx_run.specs.Answers.{told_source};
-ghost use Rattle.zx_run.specs.Internal.Parts.{IsReadFailure};
+ghost use Rattle.zx_run.specs.Internal.Parts.{IsRead};
 
 use crate::input::MOST_BYTES;
 use crate::status::{Fault, Status};
@@ -26,17 +26,13 @@ pub fn read_circuit<S: Source>(alloc: Global, source: &mut S) -> Result<Elementa
     ensures accepted { (text : List ℕ) → S.left source.old ≡ Some text
         → IfOk result (λ circuit. IsAccepted text circuit) }
     ensures valid { IfOk result (λ circuit. IsElementary circuit) }
-    ensures reads_well { OnOk result (S.faults source.new ≡ S.faults source.old) }
-    ensures end { (text : List ℕ) → S.left source.old ≡ Some text
-        → OnOk result (S.left source.new ≡ Some []) }
-    ensures failure { IfErr result (IsReadFailure IsFirstFault
-        (told_source S.left S.faults source.old) (told_source S.left S.faults source.new)) }
+    ensures read { IsRead IsFirstFault
+        (told_source S.left S.faults source.old) (told_source S.left S.faults source.new) result }
 {
     let arena = Bump::new(alloc);
     let mut reader = PieceReader::new(alloc, &arena);
     read_pieces(source, MOST_BYTES, &mut reader)?;
-    let circuit = reader.finish()?;
-    Ok(circuit)
+    Ok(reader.finish()?)
 }
 
 impl From<ReadError> for Status {

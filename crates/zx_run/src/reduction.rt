@@ -27,6 +27,7 @@ pub fn reduction(alloc: Global, graph: OpenGraph, table: FlowTable) -> Result<Wr
     ensures { IfOk result (λ written. IsVerdict graph.graph table.table
         (IsReducedFile graph.graph written.bytes.items) written.bytes.items written.is_no) }
 {
+    // What is owned is dropped by hand: an exit where it is alive would take it apart in its proof.
     let verdict = match check(alloc, &graph, &table) {
         Ok(verdict) => verdict,
         Err(error) => {

@@ -1,13 +1,13 @@
 //! Reading: from a source to the two circuits that its text means, which a line parts.
 
-ghost use Rattle.std.specs.Prelude.{◌≡◌, ◌≤◌, ◌⊎◌, List, ℕ, [], Some, length, IfOk, IfErr, IfSome, OnOk};
+ghost use Rattle.std.specs.Prelude.{◌≡◌, ◌≤◌, ◌⊎◌, List, ℕ, Some, length, IfOk, IfErr, IfSome};
 ghost use Rattle.zx_gates.specs.Elementary.{IsElementary};
 ghost use Rattle.zx_run.specs.declared.status.Status.TheVariants.{NoMemory};
 ghost use Rattle.zx_run.specs.Internal.ErrorAnswers.{answer_to_text_error};
 ghost use Rattle.zx_run.specs.FirstFault.{most_bytes, IsAccepted};
 ghost use Rattle.zx_run.specs.TwoTexts.{AreAccepted, IsFirstFaultOfTwo};
 ghost use Rattle.zx_run.specs.Answers.{told_source};
-ghost use Rattle.zx_run.specs.Internal.Parts.{IsReadFailure};
+ghost use Rattle.zx_run.specs.Internal.Parts.{IsRead};
 ghost use Rattle.zx_run.specs.Internal.Refusals.{IsFaultFrom, IsRefusalFor, moved_answer, moved_error};
 
 use crate::input::read_bytes;
@@ -33,11 +33,8 @@ pub fn read_two_circuits<S: Source>(
         → IfOk result (λ read. AreAccepted text read.0 read.1) }
     ensures first_valid { IfOk result (λ read. IsElementary read.0) }
     ensures second_valid { IfOk result (λ read. IsElementary read.1) }
-    ensures reads_well { OnOk result (S.faults source.new ≡ S.faults source.old) }
-    ensures end { (text : List ℕ) → S.left source.old ≡ Some text
-        → OnOk result (S.left source.new ≡ Some []) }
-    ensures failure { IfErr result (IsReadFailure IsFirstFaultOfTwo
-        (told_source S.left S.faults source.old) (told_source S.left S.faults source.new)) }
+    ensures read { IsRead IsFirstFaultOfTwo
+        (told_source S.left S.faults source.old) (told_source S.left S.faults source.new) result }
 {
     let bytes = read_bytes(alloc, source)?;
     two_circuits(alloc, &bytes)

@@ -541,32 +541,26 @@ module _ (g : Graph) (w : WellFormed g) (as_many : length g.inputs ≡ length g.
 
       from_input : (p : ℕ) → member p vs ≡ true → p ≢ i.vertex → p ≢ o.vertex → near i.vertex p ≡ false
       from_input p there first second =
-          no_edge i.vertex p (input_there i.vertex (input i o m)) there first unless
-        where
-          unless : (j q : End) → Meet j q g.inputs g.outputs → xor j.hadamard q.hadamard ≡ true → (both i.vertex p j.vertex && both i.vertex p q.vertex) ≡ false
-          unless j q n differ =
-              ap (λ b. both i.vertex p j.vertex && (b || eqb q.vertex p))
-              (ne_eqb q.vertex i.vertex (λ e. true≢false (sym (input i o m) ∙ ap (λ u. member u (end_vertices g.inputs)) (sym e) ∙ no_input j q n differ)))
-              ∙ by_equal q.vertex p
-              (λ t e. ap₂ (λ a b. (a || b) && eqb q.vertex p)
-              (ne_eqb j.vertex i.vertex (λ r. second (sym e ∙ ap (λ (x : End). x.vertex) (one_input j q i o g.inputs g.outputs inputs_differ n m r).1)))
-              (ne_eqb j.vertex p (λ r. ends_apart j q n differ (r ∙ sym e))))
-              (λ f d. ap (λ b. both i.vertex p j.vertex && b) f ∙ and-false (both i.vertex p j.vertex))
+          no_edge i.vertex p (input_there i.vertex (input i o m)) there first (λ j q n differ.
+          ap (λ b. both i.vertex p j.vertex && (b || eqb q.vertex p))
+          (ne_eqb q.vertex i.vertex (λ e. true≢false (sym (input i o m) ∙ ap (λ u. member u (end_vertices g.inputs)) (sym e) ∙ no_input j q n differ)))
+          ∙ by_equal q.vertex p
+          (λ t e. ap₂ (λ a b. (a || b) && eqb q.vertex p)
+          (ne_eqb j.vertex i.vertex (λ r. second (sym e ∙ ap (λ (x : End). x.vertex) (one_input j q i o g.inputs g.outputs inputs_differ n m r).1)))
+          (ne_eqb j.vertex p (λ r. ends_apart j q n differ (r ∙ sym e))))
+          (λ f d. ap (λ b. both i.vertex p j.vertex && b) f ∙ and-false (both i.vertex p j.vertex)))
 
       from_output : (p : ℕ) → member p vs ≡ true → p ≢ o.vertex → p ≢ i.vertex → near o.vertex p ≡ false
       from_output p there first second =
-          no_edge o.vertex p (output_there o.vertex (output i o m)) there first unless
-        where
-          unless : (j q : End) → Meet j q g.inputs g.outputs → xor j.hadamard q.hadamard ≡ true → (both o.vertex p j.vertex && both o.vertex p q.vertex) ≡ false
-          unless j q n differ =
-              ap (λ b. (b || eqb j.vertex p) && both o.vertex p q.vertex)
-              (ne_eqb j.vertex o.vertex (λ e. true≢false (sym (input j q n) ∙ ap (λ u. member u (end_vertices g.inputs)) e ∙ no_input i o m marks)))
-              ∙ by_equal j.vertex p
-              (λ t e. ap₂ (λ a b. eqb j.vertex p && (a || b))
-              (ne_eqb q.vertex o.vertex (λ r. second (sym e ∙ ap (λ (x : End). x.vertex) (one_output j q i o g.inputs g.outputs outputs_differ n m r).0)))
-              (ne_eqb q.vertex p (λ r. ends_apart j q n differ (e ∙ sym r)))
-              ∙ and-false (eqb j.vertex p))
-              (λ f d. ap (λ b. b && both o.vertex p q.vertex) f)
+          no_edge o.vertex p (output_there o.vertex (output i o m)) there first (λ j q n differ.
+          ap (λ b. (b || eqb j.vertex p) && both o.vertex p q.vertex)
+          (ne_eqb j.vertex o.vertex (λ e. true≢false (sym (input j q n) ∙ ap (λ u. member u (end_vertices g.inputs)) e ∙ no_input i o m marks)))
+          ∙ by_equal j.vertex p
+          (λ t e. ap₂ (λ a b. eqb j.vertex p && (a || b))
+          (ne_eqb q.vertex o.vertex (λ r. second (sym e ∙ ap (λ (x : End). x.vertex) (one_output j q i o g.inputs g.outputs outputs_differ n m r).0)))
+          (ne_eqb q.vertex p (λ r. ends_apart j q n differ (e ∙ sym r)))
+          ∙ and-false (eqb j.vertex p))
+          (λ f d. ap (λ b. b && both o.vertex p q.vertex) f))
 
   pub identity_bare : is_bare g ≡ true
   identity_bare =

@@ -91,7 +91,7 @@ fn compare_whole(alloc: Global, a: &GateList, b: &GateList) -> Result<Sameness, 
     // The second list is a circuit.
     prove!(b.gates().len() <= u32::MAX as usize);
     let both = undone_by(a, b)?;
-    let found = simplified(alloc, &both)?;
+    let found = simplify_as_graph(alloc, &both)?;
     drop(both);
     if is_identity(&found) {
         return Ok(Sameness::Same);
@@ -181,7 +181,7 @@ fn is_nothing(bare: bool, left: &GateList) -> bool
 }
 
 /// What a circuit's graph is simplified to, with the scalar by which the circuit's map is that of what is left.
-pub(crate) fn simplified(alloc: Global, circuit: &GateList) -> Result<Simplified, AllocError>
+pub(crate) fn simplify_as_graph(alloc: Global, circuit: &GateList) -> Result<Simplified, AllocError>
     ensures { IfOk result (Simplifies circuit.now) }
 {
     // A circuit has no more qubits than a graph may have outputs, and not too many gates.

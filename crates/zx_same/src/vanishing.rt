@@ -5,7 +5,7 @@ ghost use Rattle.zx_model.specs.Proportional.{Proportional};
 ghost use Rattle.zx_gates.specs.Maps.{amp};
 ghost use Rattle.zx_same.specs.Internal.Vanishing.{HaveOneMap};
 
-use crate::comparing::simplified;
+use crate::comparing::simplify_as_graph;
 use identity_search::{propose_shortly, propose_vanishing};
 use std::alloc::{AllocError, Global};
 use zx_gates::{GateList, counts};
@@ -80,7 +80,7 @@ fn with_fewer_odd(
     let Some(longer) = put_in(alloc, circuit, &insertion)? else {
         return Ok(None);
     };
-    let made = simplified(alloc, &longer.gates)?;
+    let made = simplify_as_graph(alloc, &longer.gates)?;
     if counts(&made.gates).odd < counts(circuit).odd {
         return Ok(Some(made.gates));
     }

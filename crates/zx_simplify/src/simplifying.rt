@@ -1,13 +1,10 @@
 //! A graph to a circuit, with the steps and the graph on the way.
 
 ghost use Rattle.std.specs.Prelude.{◌≡◌, ◌≤◌, length, map, IfOk};
-ghost use Rattle.zx_calculus.specs.Reduced.{IsReduced};
-ghost use Rattle.zx_calculus.specs.Graph.{WellFormed};
 ghost use Rattle.gflow_laws.specs.Flow.{IsFlow};
 ghost use Rattle.zx_gates.specs.Circuit.{most_qubits};
 ghost use Rattle.graph_rewrites.specs.Steps.{step_named};
 ghost use Rattle.zx_simplify.specs.Circuits.{SimplifiesTo, IsSimplifiedGraph};
-ghost use Rattle.zx_simplify.specs.Extracting.{Extracts};
 
 use crate::extracting::extract_tidy;
 use open_graph::OpenGraph;
@@ -47,7 +44,8 @@ pub fn simplify(alloc: Global, graph: OpenGraph, flow: Flow) -> Result<Simplifie
 {
     let made = reduce_owned(alloc, graph, flow)?;
     let flow = made.flow;
-    let circuit = extract_copy(alloc, &made.graph, flow)?;
+    let copy = made.graph.copy()?;
+    let circuit = extract_tidy(alloc, copy, flow)?;
     Ok(Simplified {
         gates: circuit.gates,
         scalar: made.scalar.times(circuit.scalar),
@@ -78,16 +76,4 @@ pub fn simplify_graph(
         gates: circuit.gates,
         scalar: made.scalar.times(circuit.scalar),
     })
-}
-
-// The circuit of a reduced graph, which stays.
-fn extract_copy(alloc: Global, reduced: &OpenGraph, flow: Flow) -> Result<ScaledCircuit, AllocError>
-    requires flow { IsFlow reduced.now.graph flow.flow }
-    requires reduced { IsReduced reduced.now.graph }
-    requires well_formed { WellFormed reduced.now.graph }
-    requires ends { length reduced.now.graph.inputs ≡ length reduced.now.graph.outputs }
-    requires few { length reduced.now.graph.outputs ≤ most_qubits }
-    ensures { IfOk result (λ made. Extracts reduced.now.graph made.gates made.scalar) }
-{
-    extract_tidy(alloc, reduced.copy()?, flow)
 }

@@ -62,6 +62,7 @@ fn line_taken(
     ensures none { IfOk result (λ found. IfNone found (IsRefused (graph_files (wanted_by with_flow))
         (version_named version) (lines_so_far reader) line.now)) }
 {
+    // The reader is dropped by hand: an exit by `?` would take each of its variants apart in the proof.
     match parse(alloc, line) {
         Ok(Some(line)) => taken(alloc, version, with_flow, reader, &line),
         Ok(None) => {

@@ -56,14 +56,13 @@ pub(crate) fn taken(
 fn graph_taken(
     version: Version,
     with_flow: bool,
-    part: GraphPart,
+    mut part: GraphPart,
     line: &Line,
 ) -> Result<Option<Reader>, AllocError>
     requires room { length part.graph.vertices < 2 ^ 32 }
     ensures { IfOk result (λ next. option_map lines_so_far next
         ≡ graph_step (version_named version) (wanted_by with_flow) part (line_said line.now)) }
 {
-    let mut part = part;
     let fits = match line {
         Line::Vertex {
             number,
@@ -132,7 +131,7 @@ fn set_taken(part: SetPart, line: &Line) -> Result<Option<Reader>, AllocError>
 
 // The same where the set of this vertex comes next.
 fn member_line_taken(
-    part: SetPart,
+    mut part: SetPart,
     next: VertexId,
     line: &Line,
 ) -> Result<Option<Reader>, AllocError>
@@ -145,7 +144,6 @@ fn member_line_taken(
                 drop(part);
                 return Ok(None);
             }
-            let mut part = part;
             let fits = part.take_set(next, members);
             kept(Reader::Sets(part), fits)
         }

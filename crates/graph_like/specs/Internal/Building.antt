@@ -8,8 +8,9 @@ use Rattle.zx_calculus.specs.Worked.{vertex}
 use Rattle.zx_diagram.specs.declared.spider.Spider.{Spider}
 use Rattle.zx_diagram.specs.declared.wire.Wire.{Wire}
 use Rattle.zx_diagram.specs.Diagram.{numbers_from}
-use Rattle.graph_like.specs.declared.ends.Side.{Side}
-use Rattle.graph_like.specs.declared.ends.Side.TheVariants.{Input, Output}
+use Rattle.open_graph.specs.declared.side.Side.{Side}
+use Rattle.open_graph.specs.declared.side.Side.TheVariants.{Input, Output}
+use Rattle.open_graph.specs.Sides.{ends_of}
 use Rattle.graph_like.specs.LikeForm.{joined_oddly, surplus_in, placed_in, hangs}
 
 -- a well-formed graph whose vertices are 0, 1, 2 and so on, all of them XY
@@ -36,19 +37,10 @@ pub record HangsOn (v : ℕ) (g h : Graph) : Type 0 where
   pub outputs : h.outputs ≡ g.outputs
   pub edges : (p q : ℕ) → joined h.edges p q ≡ xor (joined g.edges p q) (is_pair v (length g.vertices) p q)
 
--- the ends of a side
-abbrev pub ends_of : Side → Graph → List End
-ends_of Input g = g.inputs
-ends_of Output g = g.outputs
-
+-- the ends of the other side
 abbrev pub other_ends_of : Side → Graph → List End
 other_ends_of Input g = g.outputs
 other_ends_of Output g = g.inputs
-
--- the graph with these ends on a side
-abbrev pub with_ends : Side → List End → Graph → Graph
-with_ends Input ends g = record g { inputs = ends }
-with_ends Output ends g = record g { outputs = ends }
 
 -- of ends that are added on a side, the vertices of those for which there is no room where they are
 abbrev pub surplus_of : Side → Graph → List End → List ℕ

@@ -28,6 +28,12 @@ end_of w = w.offset + length w.words.items
 abbrev pub span : ℕ → ℕ → ℕ → ℕ → ℕ
 span start count first stop = if count == 0 then stop - first else max (start + count) stop - min start first
 
+-- there are words from start up to stop, whose numbers are as small as those of the words that are kept
+pub record CanKeep (start stop : ℕ) (w : Window) : Type 0 where
+  pub some : start < stop
+  pub within : stop ≤ 2 ^ 58
+  pub bounded : end_of w ≤ 2 ^ 58
+
 -- new keeps the words from start up to stop too, which were 0 where they weren't kept
 pub record Covers (start stop : ℕ) (old new : Window) : Type 0 where
   pub words : (number : ℕ) → word_at new number ≡ word_at old number

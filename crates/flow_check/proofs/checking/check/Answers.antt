@@ -1,5 +1,5 @@
 -- One vertex more.
-use Rattle.std.proofs.Common.{rules, ◌≡◌, ◌∙◌, subst, refl, ℕ, true, List, take, take_all, add-one, arith, Option, None}
+use Rattle.std.proofs.Common.{rules, ◌≡◌, ◌∙◌, subst, refl, ℕ, ◌≤◌, true, List, length, take, take_all, add-one, arith, Option, None}
 use Rattle.std.specs.List.{list_all}
 use Rattle.gflow_laws.specs.Seen.{Seen, seen}
 use Rattle.gflow_laws.specs.Flow.{Correction}
@@ -54,19 +54,20 @@ returns-in-Some-clause-fails c =
     fails_there (seen c.args.g.now.graph) c.args.t.now.table c.v-item.result c.in-Some.condition
     (first_failure (goal.at.returns-in-Some-clause-fails c).In-Some)
 
+-- all hold once the walk is at the end of the order
+all_held : (s : Seen) (table : List Correction) (i : ℕ) (walked listed : List ℕ) → length walked ≤ i → walked ≡ listed
+    → list_all (all_hold s table) (take i walked) ≡ true → list_all (all_hold s table) listed ≡ true
+all_held s table i walked listed end is held = subst (λ (l : List ℕ). list_all (all_hold s table) l ≡ true) (take_all i walked end ∙ is) held
+
 pub returns-clause-flow : goal.returns-clause-flow
 returns-clause-flow c =
     let s : Seen = seen c.args.g.now.graph in
-    let table : List Correction = c.args.t.now.table in
-    let all : take c.loop-v.v-index c.order-v-items.result.now ≡ c.order-v-items.result.now = take_all c.loop-v.v-index c.order-v-items.result.now (omega arith) in
-    is_flow s table
-    (flow_from s table c.requires (subst (λ (l : List ℕ). list_all (all_hold s table) l ≡ true) (all ∙ c.order-v-items.ensures.value) c.loop-v.invariant.held))
+    is_flow s c.args.t.now.table
+    (flow_from s c.args.t.now.table c.requires (all_held s c.args.t.now.table c.loop-v.v-index c.order-v-items.result.now _ (omega arith) c.order-v-items.ensures.value c.loop-v.invariant.held))
     Flow refl
 
 pub returns-clause-fails : goal.returns-clause-fails
 returns-clause-fails c =
     let s : Seen = seen c.args.g.now.graph in
-    let table : List Correction = c.args.t.now.table in
-    let all : take c.loop-v.v-index c.order-v-items.result.now ≡ c.order-v-items.result.now = take_all c.loop-v.v-index c.order-v-items.result.now (omega arith) in
-    flow_fails_nowhere s table
-    (flow_from s table c.requires (subst (λ (l : List ℕ). list_all (all_hold s table) l ≡ true) (all ∙ c.order-v-items.ensures.value) c.loop-v.invariant.held))
+    flow_fails_nowhere s c.args.t.now.table
+    (flow_from s c.args.t.now.table c.requires (all_held s c.args.t.now.table c.loop-v.v-index c.order-v-items.result.now _ (omega arith) c.order-v-items.ensures.value c.loop-v.invariant.held))

@@ -28,23 +28,17 @@ returns-then-not-are_apart c =
 
 pub returns-then-not-are_apart-2 : goal.returns-then-not-are_apart-2
 returns-then-not-are_apart-2 c =
-    let s : Seen = seen c.args.g.now.graph in
-    let table : List Correction = c.args.t.now.table in
-    let members : List ℕ = c.correction_set-members.result.now.ids in
-    order_fails s table c.args.v
-    (input_told s table c.args.v members c.correction_set-members.ensures c.args.inputs.now.ids c.requires.inputs c.are_apart.ensures c.if-not-are_apart.false)
-    (order_told s table c.args.v members c.correction_set-members.ensures c.args.passed.now.ids c.requires.passed c.are_apart-2.ensures c.if-not-are_apart-2.true)
+    order_fails (seen c.args.g.now.graph) c.args.t.now.table c.args.v
+    (input_told (seen c.args.g.now.graph) _ c.args.v _ c.correction_set-members.ensures _ c.requires.inputs c.are_apart.ensures c.if-not-are_apart.false)
+    (order_told (seen c.args.g.now.graph) _ c.args.v _ c.correction_set-members.ensures _ c.requires.passed c.are_apart-2.ensures c.if-not-are_apart-2.true)
 
 pub returns-then-not-are_apart-3 : goal.returns-then-not-are_apart-3
 returns-then-not-are_apart-3 c =
-    let s : Seen = seen c.args.g.now.graph in
-    let table : List Correction = c.args.t.now.table in
-    let members : List ℕ = c.correction_set-members.result.now.ids in
-    odd_fails s table c.args.v
-    (input_told s table c.args.v members c.correction_set-members.ensures c.args.inputs.now.ids c.requires.inputs c.are_apart.ensures c.if-not-are_apart.false)
-    (order_told s table c.args.v members c.correction_set-members.ensures c.args.passed.now.ids c.requires.passed c.are_apart-2.ensures c.if-not-are_apart-2.false)
-    (odd_told s table c.args.v members c.correction_set-members.ensures c.args.passed.now.ids c.requires.passed c.in_ok-odd.odd.ids c.in_ok-odd.ensures
-    (λ w. odd_there c.args.g.now.graph (is_in members) w c.weight-plane.ensures.valid) c.are_apart-3.ensures c.if-not-are_apart-3.true)
+    odd_fails (seen c.args.g.now.graph) c.args.t.now.table c.args.v
+    (input_told (seen c.args.g.now.graph) _ c.args.v _ c.correction_set-members.ensures _ c.requires.inputs c.are_apart.ensures c.if-not-are_apart.false)
+    (order_told (seen c.args.g.now.graph) _ c.args.v _ c.correction_set-members.ensures _ c.requires.passed c.are_apart-2.ensures c.if-not-are_apart-2.false)
+    (odd_told (seen c.args.g.now.graph) _ c.args.v c.correction_set-members.result.now.ids c.correction_set-members.ensures _ c.requires.passed _ c.in_ok-odd.ensures
+    (λ w. odd_there c.args.g.now.graph (is_in c.correction_set-members.result.now.ids) w c.weight-plane.ensures.valid) c.are_apart-3.ensures c.if-not-are_apart-3.true)
 
 pub returns : goal.returns
 returns c =

@@ -15,8 +15,8 @@ with_set-requires-clause-there c =
     let here = next_some c.next.result c.loop-v.v-iterator c.next.new.self c.in-Some.v c.next.ensures.steps c.in-Some.is in
     next_there c.loop-v.yielded c.loop-v.v-iterator c.next.new.self c.args.left.now.ids c.in-Some.v c.loop-v.invariant.all here
 
-pub has_xy_plane-requires : goal.has_xy_plane-requires
-has_xy_plane-requires c =
+pub is_xy-requires : goal.is_xy-requires
+is_xy-requires c =
     let here = next_some c.next.result c.loop-v.v-iterator c.next.new.self c.in-Some.v c.next.ensures.steps c.in-Some.is in
     c.requires c.in-Some.v (next_there c.loop-v.yielded c.loop-v.v-iterator c.next.new.self c.args.left.now.ids c.in-Some.v c.loop-v.invariant.all here)
 

@@ -4,7 +4,7 @@ use Rattle.zx_diagram.specs.declared.spider.Spider.{Spider}
 use Rattle.zx_diagram.specs.declared.wire.Wire.{Wire}
 use Rattle.zx_diagram.specs.declared.wire.Leg.{Leg}
 use Rattle.graph_like.specs.declared.homes.Homes.{Homes}
-use Rattle.graph_like.specs.declared.ends.Side.TheVariants.{Input, Output}
+use Rattle.open_graph.specs.declared.side.Side.TheVariants.{Input, Output}
 use Rattle.graph_like.specs.LikeForm.{ends_at}
 use Rattle.graph_like.specs.Internal.Homes.{home_of}
 use Rattle.graph_like.specs.Internal.Building.{IsJoinedBy, AddsEnds}

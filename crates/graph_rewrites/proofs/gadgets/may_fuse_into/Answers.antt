@@ -10,7 +10,7 @@ returns-in-Some-clause-value c =
     let g = c.args.g.now.graph in
     let gadget : is_gadget g c.args.u ≡ true = sym c.is_gadget.ensures.value ∙ c.if-not-is_gadget.false in
     let one : length (neighbours g c.args.u) ≡ 1 = omega (arith, c.degree.ensures.value, c.if-degree-ne1.false) in
-    c.is_xy.ensures
+    c.is_xy.ensures.value
     ∙ sym (ap₂ (λ a b. a && b) gadget
     (ap (is_one_XY g) (only_leg g c.args.u c.in-Some.leg c.is_gadget.ensures.valid one c.in-Some.ensures.first.1)))
 

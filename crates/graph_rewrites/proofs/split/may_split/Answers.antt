@@ -2,7 +2,7 @@
 use Rattle.std.proofs.Common.{◌∙◌, sym}
 use Rattle.zx_calculus.specs.Graph.{ids, end_vertices}
 use Rattle.zx_calculus.proofs.Splitting.{absent_from}
-use Rattle.graph_rewrites.specs.Internal.Sides.{ends_of}
+use Rattle.open_graph.specs.Sides.{ends_of}
 use Rattle.graph_rewrites.proofs.Splits.{allowed_is, ends_ordered}
 use Rattle.graph_rewrites.proofs.split.may_split.Goals as goal
 

@@ -4,7 +4,7 @@ use Rattle.std.proofs.lemmas.Bool.{false≢true}
 use Rattle.zx_calculus.specs.Graph.{End, ids}
 use Rattle.zx_calculus.specs.Splits.{split_scalar}
 use Rattle.zx_calculus.specs.Splits.{new_vertex}
-use Rattle.graph_rewrites.specs.Internal.Sides.{ends_of}
+use Rattle.open_graph.specs.Sides.{ends_of}
 use Rattle.graph_rewrites.proofs.Spiders.{old_below, new_below, new_live, new_plane, new_free}
 use Rattle.graph_rewrites.proofs.Splits.{scalar_is, ends_ordered, ends_kept, split_live, place_within, end_moved, mark_of_end, split_step}
 use Rattle.graph_rewrites.proofs.split.split_in_graph.Goals as goal

@@ -47,7 +47,7 @@ fours-preserved c =
     }
 
 pub rest-init : goal.rest-init
-rest-init c = record { within = c.fours.invariant.within; size = c.fours.invariant.size; words = c.fours.invariant.words }
+rest-init c = c.fours.invariant
 
 pub rest-preserved : goal.rest-preserved
 rest-preserved c = record {

@@ -7,17 +7,14 @@ use Rattle.zx_extract.specs.Internal.Extracted.{IsCircuitOf}
 use Rattle.zx_extract.proofs.Calls.{if_ok}
 use Rattle.zx_extract.proofs.extraction.extract.Goals as goal
 
-pub take_apart-requires-clause-planes : goal.take_apart-requires-clause-planes
-take_apart-requires-clause-planes c =
-    subst (λ (g : Graph). (v : ℕ) → IsVertex g v → plane_of g v ≢ XZ) (sym c.in_ok-frontier.ensures.graph) c.requires.planes
-
-pub take_apart-requires-clause-ends : goal.take_apart-requires-clause-ends
-take_apart-requires-clause-ends c =
-    subst (λ (g : Graph). length g.inputs ≡ length g.outputs) (sym c.in_ok-frontier.ensures.graph) c.requires.ends
-
-pub take_apart-requires-clause-few : goal.take_apart-requires-clause-few
-take_apart-requires-clause-few c =
-    subst (λ (g : Graph). length g.outputs ≤ most_qubits) (sym c.in_ok-frontier.ensures.graph) c.requires.few
+pub take_apart-requires : goal.take_apart-requires
+take_apart-requires c = record {
+  flow = c.in_ok-frontier.ensures.flow;
+  planes = subst (λ (g : Graph). (v : ℕ) → IsVertex g v → plane_of g v ≢ XZ) (sym c.in_ok-frontier.ensures.graph) c.requires.planes;
+  ends = subst (λ (g : Graph). length g.inputs ≡ length g.outputs) (sym c.in_ok-frontier.ensures.graph) c.requires.ends;
+  few = subst (λ (g : Graph). length g.outputs ≤ most_qubits) (sym c.in_ok-frontier.ensures.graph) c.requires.few;
+  none = c.in_ok-frontier.ensures.gates;
+}
 
 pub returns : goal.returns
 returns c =

@@ -4,7 +4,6 @@ use Rattle.zx_model.specs.Scalar.{IsWithin, most_root2, one_scalar, product_of_s
 use Rattle.zx_model.specs.declared.scalar.Scalar.{Scalar}
 use Rattle.zx_gates.specs.Circuit.{Circuit, gate_odd_phases}
 use Rattle.zx_gates.specs.declared.elementary.ElementaryGate.{ElementaryGate}
-use Rattle.zx_gates.specs.Elementary.{elementary_bound}
 use Rattle.zx_gates.proofs.LoweringLemmas.{IsLoweredTo, odd_lowered, all_lowered, lowered_none, lowered_more, lowered_implements, lowered_within}
 use Rattle.zx_gates.proofs.lowering.lower.Goals as goal
 
@@ -19,13 +18,9 @@ loop-gate-init c =
 
 pub times-scalar-requires : goal.times-scalar-requires
 times-scalar-requires c =
-    let e = c.args.e.now in
-    let i : ℕ = c.loop-gate.gate-index in
-    let gates = c.as_slice-gate-items.ensures in
-    let inside : i < length e.gates = omega (arith, ap length gates, c.loop-gate-test.true) in
-    let few : length e.gates < elementary_bound = c.requires.few_gates in
     subst (λ (t : Scalar). IsWithin most_root2 (product_of_scalars c.loop-gate.scalar t)) (sym c.lowering_scalar.ensures)
-    (lowered_within e.qubits e.gates i c.gate-item.result c.loop-gate.list.gates c.loop-gate.scalar inside few c.loop-gate.invariant.lowered)
+    (lowered_within c.args.e.now.qubits c.args.e.now.gates c.loop-gate.gate-index c.gate-item.result c.loop-gate.list.gates c.loop-gate.scalar
+    (omega (arith, ap length c.as_slice-gate-items.ensures, c.loop-gate-test.true)) c.requires.few_gates c.loop-gate.invariant.lowered)
 
 pub loop-gate-preserved : goal.loop-gate-preserved
 loop-gate-preserved c =

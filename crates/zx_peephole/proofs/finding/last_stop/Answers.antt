@@ -1,27 +1,22 @@
 -- Behind the links no gate is on the gate's qubits.
-use Rattle.std.proofs.Common.{sym, ap, ◌∙◌, arith, subst, ℕ, ◌+◌}
+use Rattle.std.proofs.Common.{sym, ap, ◌∙◌, arith, subst, ℕ}
 use Rattle.zx_peephole.specs.Internal.Stops.{stops, IsFreeBetween}
-use Rattle.zx_peephole.proofs.WalkLemmas.{walk_free, free_joined, free_here, nearest_before, nearest_left}
+use Rattle.zx_peephole.proofs.WalkLemmas.{free_behind, free_here, nearest_before, nearest_left}
 use Rattle.zx_peephole.proofs.LeftLemmas.{read_at}
 use Rattle.zx_peephole.proofs.finding.last_stop.Goals as goal
 
 pub returns-then-stops-clause-found : goal.returns-then-stops-clause-found
 returns-then-stops-clause-found c =
-    let gates = c.args.work.now.gates.items in
-    let gate = c.args.gate.now in
-    let place = c.in-Some.place in
-    let walk = c.loop-place.walk in
-    let before = nearest_before gates gate walk place c.loop-place.invariant.walk c.in-Some.ensures.found in
+    let before = nearest_before c.args.work.now.gates.items c.args.gate.now c.loop-place.walk c.in-Some.place c.loop-place.invariant.walk c.in-Some.ensures.found in
     record {
       before = omega (arith, before, c.loop-place.invariant.within);
-      left = nearest_left gates gate walk place c.loop-place.invariant.walk c.in-Some.ensures.found;
+      left = nearest_left c.args.work.now.gates.items c.args.gate.now c.loop-place.walk c.in-Some.place c.loop-place.invariant.walk c.in-Some.ensures.found;
       stopped =
-          ap (stops gate) (sym (read_at gates place c.index.result.now
+          ap (stops c.args.gate.now) (sym (read_at c.args.work.now.gates.items c.in-Some.place c.index.result.now
           (omega (arith, before, c.loop-place.invariant.within, c.requires.within, c.requires.sound.places.within)) c.index.ensures))
           ∙ sym c.stops.ensures ∙ c.if-stops.true;
-      free = free_joined gates gate (place + 1) walk.place c.args.start.place
-          (walk_free gates gate walk (place + 1) c.loop-place.invariant.walk c.in-Some.ensures.found.first c.in-Some.ensures.found.second)
-          c.loop-place.invariant.free;
+      free = free_behind c.args.work.now.gates.items c.args.gate.now c.loop-place.walk c.in-Some.place c.args.start.place
+          c.loop-place.invariant.walk c.in-Some.ensures.found c.loop-place.invariant.free;
     }
 
 pub loop-place-preserved : goal.loop-place-preserved
@@ -29,8 +24,7 @@ loop-place-preserved c =
     let gates = c.args.work.now.gates.items in
     let gate = c.args.gate.now in
     let place = c.in-Some.place in
-    let walk = c.loop-place.walk in
-    let before = nearest_before gates gate walk place c.loop-place.invariant.walk c.in-Some.ensures.found in
+    let before = nearest_before gates gate c.loop-place.walk place c.loop-place.invariant.walk c.in-Some.ensures.found in
     record {
       within = omega (arith, before, c.loop-place.invariant.within, c.pass-walk.ensures.place);
       walk = c.pass-walk.ensures.walk;
@@ -39,7 +33,5 @@ loop-place-preserved c =
           (ap (stops gate) (sym (read_at gates place c.index.result.now
           (omega (arith, before, c.loop-place.invariant.within, c.requires.within, c.requires.sound.places.within)) c.index.ensures))
           ∙ sym c.stops.ensures ∙ c.if-stops.false)
-          (free_joined gates gate (place + 1) walk.place c.args.start.place
-          (walk_free gates gate walk (place + 1) c.loop-place.invariant.walk c.in-Some.ensures.found.first c.in-Some.ensures.found.second)
-          c.loop-place.invariant.free));
+          (free_behind gates gate c.loop-place.walk place c.args.start.place c.loop-place.invariant.walk c.in-Some.ensures.found c.loop-place.invariant.free));
     }

@@ -1,7 +1,7 @@
--- What is said of two circuits is said of the texts that mean them.
-use Rattle.zx_run.proofs.ComparedLemmas.{comparison_for}
+-- The measurements are the same where the test says so.
+use Rattle.std.proofs.Common.{◌≡◌, true, rules}
 use Rattle.zx_run.proofs.comparison.comparison_text.Goals as goal
 
-pub returns : goal.returns
-returns c = λ text accepted.
-    comparison_for text _ c.args.one.now c.args.other.now _ accepted c.in_ok-written.ensures
+pub line_about_gates-requires-clause-measures : goal.line_about_gates-requires-clause-measures
+line_about_gates-requires-clause-measures c =
+    let same : c.have_same_measures.result ≡ true = search rules in c.have_same_measures.ensures.same same

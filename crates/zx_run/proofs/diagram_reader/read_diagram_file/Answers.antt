@@ -4,12 +4,9 @@ use Rattle.zx_run.specs.DiagramFiles.{IsFirstDiagramFault}
 use Rattle.zx_run.proofs.RefusalLemmas.{bytes_failed, text_refused}
 use Rattle.zx_run.proofs.diagram_reader.read_diagram_file.Goals as goal
 
-pub returns-in_err-bytes-clause-failure : goal.returns-in_err-bytes-clause-failure
-returns-in_err-bytes-clause-failure g c =
-    bytes_failed IsFirstDiagramFault (λ text fault why. inl why) _ _ _ _ c.from_residual.ensures.1 c.in_err-bytes.ensures.failure
+pub returns-in_err-bytes-clause-read : goal.returns-in_err-bytes-clause-read
+returns-in_err-bytes-clause-read g c = bytes_failed IsFirstDiagramFault (λ text fault why. inl why) _ _ _ _ c.from_residual.ensures.1 c.in_err-bytes.ensures.failure
 
-pub returns-clause-failure : goal.returns-clause-failure
-returns-clause-failure g c =
-    let read = c.in_ok-bytes.ensures in
-    text_refused IsFirstDiagramFault c.in_ok-bytes.bytes.items c.deref.result.now _ _ _ c.deref.ensures.value read.short read.reads_well read.text
-    read.end c.diagram_of.ensures.refusal
+pub returns-clause-read : goal.returns-clause-read
+returns-clause-read g c =
+    let read = c.in_ok-bytes.ensures in text_refused IsFirstDiagramFault c.in_ok-bytes.bytes.items c.deref.result.now _ _ _ c.deref.ensures.value read.short read.reads_well read.text read.end c.diagram_of.ensures.refusal

@@ -1,7 +1,9 @@
 -- Scalars, odd phases and widths carry over from one to the next.
-use Rattle.std.proofs.Common.{arith}
+use Rattle.std.proofs.Common.{arith, subst}
+use Rattle.zx_calculus.specs.Graph.{Graph}
 use Rattle.zx_gates.proofs.Passing.{product_fits}
 use Rattle.zx_reduce.specs.Scaling.{most_reduced_root2}
+use Rattle.zx_simplify.specs.Extracting.{Extracts}
 use Rattle.zx_simplify.proofs.Whole.{graph_whole}
 use Rattle.zx_simplify.proofs.simplifying.simplify.Goals as goal
 
@@ -11,6 +13,6 @@ times-requires c =
 
 pub returns : goal.returns
 returns c =
-    let made = c.in_ok-made.made in
-    graph_whole c.args.graph.graph made.graph.graph made.flow.flow made.trace.steps made.scalar c.in_ok-circuit.circuit.gates c.in_ok-circuit.circuit.scalar c.times.result
-    c.requires.ends c.in_ok-made.ensures c.in_ok-circuit.ensures c.times.ensures
+    let circuit = c.in_ok-circuit.circuit in
+    graph_whole _ _ _ _ _ _ _ _ c.requires.ends c.in_ok-made.ensures
+    (subst (λ (h : Graph). Extracts h circuit.gates circuit.scalar) c.in_ok-copy.ensures.ok c.in_ok-circuit.ensures) c.times.ensures

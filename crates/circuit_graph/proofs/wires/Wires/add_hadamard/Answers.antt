@@ -43,12 +43,7 @@ returns-clause-step c =
     on_ok_weaker c.add.result (λ same. spider_step (graph_so_far c.args.self.now) c.args.q c.last_spider-here.result c.in_ok-next.next c.new.result c.add_vertex.new.self.graph c.requires.ready c.last_spider-here.ensures c.in_ok-next.ensures.fresh c.new.ensures c.in_ok-next.ensures.ok c.toggle_edge.new.self.graph c.in_ok-toggle_edge.ensures.ok _
     c.in_ok-next.ensures.least
     (c.move_output.ensures.ok
-    ∙ ap₂ (λ i e. record {
-      vertices = c.toggle_edge.new.self.graph.vertices;
-      edges = c.toggle_edge.new.self.graph.edges;
-      inputs = c.toggle_edge.new.self.graph.inputs;
-      outputs = set c.toggle_edge.new.self.graph.outputs i e;
-    }) c.from.ensures c.plain.ensures)
+    ∙ ap₂ (λ i e. record c.toggle_edge.new.self.graph { outputs = set c.toggle_edge.new.self.graph.outputs i e }) c.from.ensures c.plain.ensures)
     same) c.add.ensures.ok
 
 pub returns-clause-ready : goal.returns-clause-ready

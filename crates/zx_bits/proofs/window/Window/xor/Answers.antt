@@ -32,12 +32,12 @@ begins words start count some le last zeros =
       | inr g ↦ absurd (last (omega arith) (sym (get_or-take count words (count - 1) 0 (omega arith)) ∙ zeros (count - 1) (omega arith)))
     ]
 
-pub cover-requires-clause-some : goal.cover-requires-clause-some
-cover-requires-clause-some c =
+pub cover-requires : goal.cover-requires
+cover-requires c =
     let size = length-take-le c.used-end.result c.as_slice-words.result.now c.used-end.ensures.within in
     let lt = begins c.as_slice-words.result.now c.unused_before-start.result c.used-end.result c.if-end-eq0.false
     (omega (arith, c.unused_before-start.ensures.within, size)) c.used-end.ensures.last c.unused_before-start.ensures.zeros in
-    omega (arith, lt)
+    record { some = omega (arith, lt); within = omega (arith, c.used-end.ensures.within, ap length c.as_slice-words.ensures); bounded = c.requires.bounded }
 
 pub add_words-requires : goal.add_words-requires
 add_words-requires c =

@@ -1,5 +1,5 @@
 -- The output at the next vertex.
-use Rattle.std.proofs.Common.{◌≡◌, ◌∙◌, false, ne_eqb, set, ap, subst, sym}
+use Rattle.std.proofs.Common.{◌≡◌, ◌∙◌, ℕ, false, ne_eqb, set, ap, subst, sym}
 use Rattle.std.proofs.lemmas.Result.{on_ok_weaker}
 use Rattle.zx_model.specs.Bits.{member}
 use Rattle.zx_calculus.specs.Graph.{XY, Graph, ids, kind_of, plane_of, end_vertices, IsVertex, plain}
@@ -9,25 +9,33 @@ use Rattle.zx_extract.specs.Internal.FrontGraphs.{FrontGraph, front_graph}
 use Rattle.zx_extract.proofs.Fronts.{met_in_range, met_free, moved_is, here_live, here_interior, advanced_on}
 use Rattle.zx_extract.proofs.front_graph.FrontGraph.move_output.Goals as goal
 
+-- what is asked for of the view holds of the graph
+live_in : {f g : FrontGraph} (v : ℕ) → f ≡ g → IsVertex g.graph v → IsVertex f.graph v
+live_in v is = subst (λ (f : FrontGraph). IsVertex f.graph v) (sym is)
+
+output_in : {f g : FrontGraph} (t u : ℕ) → f ≡ g → HasPlainOutput g.graph t u → HasPlainOutput f.graph t u
+output_in t u is = subst (λ (f : FrontGraph). HasPlainOutput f.graph t u) (sym is)
+
+none_in : {f g : FrontGraph} (v : ℕ) → f ≡ g → member v (end_vertices g.graph.outputs) ≡ false → member v (end_vertices f.graph.outputs) ≡ false
+none_in v is = subst (λ (f : FrontGraph). member v (end_vertices f.graph.outputs) ≡ false) (sym is)
+
 pub inner_row-requires : goal.inner_row-requires
-inner_row-requires c = subst (λ (f : FrontGraph). IsVertex f.graph c.args.v) (sym c.self.view_is) c.requires.live
+inner_row-requires c = live_in c.args.v c.self.view_is c.requires.live
 
 pub meet_outputs-requires : goal.meet_outputs-requires
 meet_outputs-requires c = record {
-  live = subst (λ (f : FrontGraph). IsVertex f.graph c.args.v) (sym c.self.view_is) c.requires.live;
-  no_output = subst (λ (f : FrontGraph). member c.args.v (end_vertices f.graph.outputs) ≡ false) (sym c.self.view_is)
-      c.requires.no_output;
+  live = live_in c.args.v c.self.view_is c.requires.live;
+  no_output = none_in c.args.v c.self.view_is c.requires.no_output;
 }
 
 pub move_output-requires : goal.move_output-requires
 move_output-requires c =
-    let at = subst (λ (f : FrontGraph). HasPlainOutput f.graph c.args.t c.args.u) (sym c.self.view_is) c.requires.output in
-    let out = subst (λ (f : FrontGraph). member c.args.v (end_vertices f.graph.outputs) ≡ false) (sym c.self.view_is)
-    c.requires.no_output in
+    let at = output_in c.args.t c.args.u c.self.view_is c.requires.output in
+    let out = none_in c.args.v c.self.view_is c.requires.no_output in
     record {
       in_range = met_in_range c.args.t c.self.invariant at out c.in_ok-meet_outputs.ensures.met;
       live = rw c.plain.ensures (ap (λ vs. member c.args.v (ids vs)) c.in_ok-meet_outputs.ensures.met.vertices
-          ∙ subst (λ (f : FrontGraph). IsVertex f.graph c.args.v) (sym c.self.view_is) c.requires.live);
+          ∙ live_in c.args.v c.self.view_is c.requires.live);
       plane = rw c.plain.ensures (ap (λ vs. (kind_of vs c.args.v).plane) c.in_ok-meet_outputs.ensures.met.vertices
           ∙ subst (λ (f : FrontGraph). plane_of f.graph c.args.v ≡ XY) (sym c.self.view_is) c.requires.plane);
       free = met_free c.args.t c.self.invariant at out c.in_ok-meet_outputs.ensures.met c.plain.ensures;
@@ -35,9 +43,8 @@ move_output-requires c =
 
 pub remove_vertex-requires : goal.remove_vertex-requires
 remove_vertex-requires c =
-    let at = subst (λ (f : FrontGraph). HasPlainOutput f.graph c.args.t c.args.u) (sym c.self.view_is) c.requires.output in
-    let out = subst (λ (f : FrontGraph). member c.args.v (end_vertices f.graph.outputs) ≡ false) (sym c.self.view_is)
-    c.requires.no_output in
+    let at = output_in c.args.t c.args.u c.self.view_is c.requires.output in
+    let out = none_in c.args.v c.self.view_is c.requires.no_output in
     record {
       live = here_live c.args.t c.self.invariant at out c.in_ok-meet_outputs.ensures.met c.move_output.ensures.ok c.plain.ensures;
       interior = here_interior c.args.t c.self.invariant at out c.in_ok-meet_outputs.ensures.met c.move_output.ensures.ok
@@ -50,10 +57,9 @@ returns c =
     let g = c.self.inside.inner.graph in
     let rows = c.self.inside.rows.lists in
     let met = c.meet_outputs.new.g.graph in
-    let at = subst (λ (f : FrontGraph). HasPlainOutput f.graph c.args.t c.args.u) (sym c.self.view_is) c.requires.output in
-    let live = subst (λ (f : FrontGraph). IsVertex f.graph c.args.v) (sym c.self.view_is) c.requires.live in
-    let out = subst (λ (f : FrontGraph). member c.args.v (end_vertices f.graph.outputs) ≡ false) (sym c.self.view_is)
-    c.requires.no_output in
+    let at = output_in c.args.t c.args.u c.self.view_is c.requires.output in
+    let out = none_in c.args.v c.self.view_is c.requires.no_output in
+    let live = live_in c.args.v c.self.view_is c.requires.live in
     on_ok_weaker c.forget.result (λ forgotten.
     subst (λ (f : FrontGraph). IsRemoval (record f.graph { outputs = set f.graph.outputs c.args.t (plain c.args.v) }) c.args.u
     (front_graph c.remove_vertex.new.self.graph c.forget.new.rows.lists)) c.self.view_is

@@ -3,7 +3,7 @@ use Rattle.std.proofs.Common.{◌≡◌, IfOk, subst}
 use Rattle.zx_report.specs.Report.{report_lines}
 use Rattle.zx_optimise.specs.Optimising.{counts_of}
 use Rattle.zx_run.proofs.CountsLemmas.{same_counts}
-use Rattle.zx_run.proofs.reporting.report_lines.Goals as goal
+use Rattle.zx_run.proofs.output.report_lines.Goals as goal
 
 pub returns : goal.returns
 returns c =

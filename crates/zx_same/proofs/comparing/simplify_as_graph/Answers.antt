@@ -15,7 +15,7 @@ use Rattle.graph_rewrites.specs.Steps.{step_named}
 use Rattle.zx_simplify.specs.Scaling.{most_simplified_root2}
 use Rattle.zx_same.specs.Internal.Simplifying.{most_left_root2}
 use Rattle.zx_same.proofs.Comparisons.{from_circuit, bound_rises}
-use Rattle.zx_same.proofs.comparing.simplified.Goals as goal
+use Rattle.zx_same.proofs.comparing.simplify_as_graph.Goals as goal
 
 -- how large the scalars of the translation and of its simplification are
 fits : (gates : ℕ) → gates < gate_limit → 4 * gates + most_simplified_root2 ≤ most_left_root2
