@@ -1,5 +1,5 @@
 -- What the calls of a graph's methods make of a translation under way.
-use Rattle.std.proofs.Common.{◌≡◌, ◌≢◌, sym, ◌∙◌, ap, ap₂, subst, ℕ, ◌+◌, false, [], ◌∷◌, ◌++◌, set, remove}
+use Rattle.std.proofs.Common.{◌≡◌, ◌≢◌, refl, sym, ◌∙◌, ap, ap₂, subst, ℕ, ◌+◌, false, [], ◌∷◌, ◌++◌, set, remove}
 use Rattle.std.specs.Prelude.{slice_get}
 use Rattle.zx_model.specs.Bits.{member}
 use Rattle.zx_calculus.specs.Graph.{XY, Plane, End, Graph, ids, kind_of, plane_of, joined, end_vertices, with_kinds, insert_vertex, IsVertex, OrderedEdges, WellFormed, plain}
@@ -12,17 +12,18 @@ use Rattle.zx_calculus.proofs.Edits.{with_kinds-at}
 pub use Rattle.zx_calculus.proofs.NewSpiders.{new_live, new_plane}
 use Rattle.zx_calculus.proofs.NewSpiders.{vertices_are, old_live, edges_are}
 use Rattle.gflow_laws.specs.Seen.{seen}
-use Rattle.gflow_laws.specs.Flow.{order_of, SameSets}
 use Rattle.gflow_laws.specs.Splits.{split_output_table}
+use Rattle.gflow_laws.specs.Flow.{order_of, SameSets}
 use Rattle.gflow_laws.proofs.Flows.{Flows-from}
 use Rattle.gflow_laws.proofs.Tables.{unlisted}
 use Rattle.circuit_laws.specs.Peeling.{HasPlainOutput, IsSpiderPeel, IsPhasePeel, IsEdgePeel}
 use Rattle.circuit_laws.proofs.Places.{member-places, output_there, one_place, absent-remove}
-use Rattle.circuit_graph.specs.Translation.{wires, with_spider}
+use Rattle.circuit_graph.specs.Behind.{IsSpiderPut}
+use Rattle.circuit_graph.specs.Translation.{wires}
 use Rattle.circuit_graph.proofs.Graphs.{spider_is}
 use Rattle.circuit_graph.proofs.Gates.{least_is}
 use Rattle.circuit_graph.proofs.Beginning.{at_both, next_is, one_more_wire}
-use Rattle.circuit_graph.specs.Internal.Runs.{GraphSoFar, IsReady, IsSpiderStep, IsPhaseStep, IsToggleStep}
+use Rattle.circuit_graph.specs.Internal.Runs.{GraphSoFar, IsReady, IsSpiderStep}
 
 pub here_live : (g : Graph) (q u : ℕ) → WellFormed g → HasPlainOutput g q u → IsVertex g u
 here_live g q u w h = output_there g q (plain u) w h
@@ -73,7 +74,7 @@ module _ (s : Graph) (q here next phase : ℕ) (g : Graph) (w : WellFormed s) (o
     next_free_there i = absent-remove next h.outputs i
         (ap (λ es. member next (end_vertices es)) outputs_are ∙ absent_from (ids s.vertices) (end_vertices s.outputs) next w.outputs.there fresh)
 
-    pub spider_peel : (t : Graph) → t ≡ record { vertices = h.vertices; edges = h.edges; inputs = h.inputs; outputs = set h.outputs q (plain next) } →
+    spider_peel : (t : Graph) → t ≡ record { vertices = h.vertices; edges = h.edges; inputs = h.inputs; outputs = set h.outputs q (plain next) } →
         IsSpiderPeel t q s
     spider_peel t moved = record {
       spider = next;
@@ -88,41 +89,24 @@ module _ (s : Graph) (q here next phase : ℕ) (g : Graph) (w : WellFormed s) (o
       outputs = ap (λ (h : Graph). h.outputs) moved ∙ ap (λ es. set es q (plain next)) outputs_are;
     }
 
-    pub spider_comes : (t : Graph) → WellFormed t → t ≡ record { vertices = h.vertices; edges = h.edges; inputs = h.inputs; outputs = set h.outputs q (plain next) } →
-        t ≡ with_spider next q s
+    pub spider_put : (t : Graph) → next ≡ least_free (ids s.vertices) →
+        t ≡ record { vertices = h.vertices; edges = h.edges; inputs = h.inputs; outputs = set h.outputs q (plain next) } → IsSpiderPut s q here next t
     unfolding spider_peel
-    spider_comes t formed moved = spider_is s q t formed (spider_peel t moved)
+    spider_put t least moved = record { peel = spider_peel t moved; here_is = refl; spider_is = refl; least = least }
 
--- the same of a translation under way
-module _ (s : GraphSoFar) (q here next phase : ℕ) (g : Graph) (r : IsReady s) (output : HasPlainOutput s.graph q here) (fresh : member next (ids s.graph.vertices) ≡ false)
-    (zero_phase : phase ≡ 0) (added : g ≡ record { vertices = insert_vertex (record { id = next; kind = in_plane XY phase }) s.graph.vertices; edges = s.graph.edges; inputs = s.graph.inputs; outputs = s.graph.outputs }) where
-  pub here_still_live : IsVertex g here
-  here_still_live = here_there s.graph q here next phase g r.well_formed output fresh zero_phase added
+pub spider_step : (s : GraphSoFar) (q here next : ℕ) (t : GraphSoFar) → IsReady s → IsSpiderPut s.graph q here next t.graph →
+    SameSets t.table (split_output_table here next s.table) → IsSpiderStep s q t
+spider_step s q here next t r put same = record {
+  peel = put.peel;
+  id = put.spider_is ∙ put.least ∙ least_is s.graph r.well_formed r.numbered;
+  table = subst (λ h. SameSets t.table (split_output_table h put.peel.spider s.table)) (sym put.here_is)
+      (subst (λ n. SameSets t.table (split_output_table here n s.table)) (sym put.spider_is) same);
+}
 
-  pub here_apart : here ≢ next
-  here_apart = here_other s.graph q here next phase g r.well_formed output fresh zero_phase added
-
-  module _ (h : Graph) (toggle : IsToggle g here next h) where
-    pub next_still_live : IsVertex h next
-    next_still_live = next_there s.graph q here next phase g r.well_formed output fresh zero_phase added h toggle
-
-    pub next_plane : plane_of h next ≡ XY
-    next_plane = next_plane_there s.graph q here next phase g r.well_formed output fresh zero_phase added h toggle
-
-    pub next_free : (i : ℕ) → member next (end_vertices (remove h.outputs i)) ≡ false
-    next_free = next_free_there s.graph q here next phase g r.well_formed output fresh zero_phase added h toggle
-
-    pub here_uncorrected : member here (order_of s.table) ≡ false
-    here_uncorrected = unlisted (seen s.graph) s.table (Flows-from (seen s.graph) s.table r.flow) here (member-places s.graph.outputs q (plain here) output)
-
-    pub spider_step : (t : GraphSoFar) → next ≡ least_free (ids s.graph.vertices) → t.graph ≡ record { vertices = h.vertices; edges = h.edges; inputs = h.inputs; outputs = set h.outputs q (plain next) } →
-        SameSets t.table (split_output_table here next s.table) → IsSpiderStep s q t
-    unfolding spider_peel
-    spider_step t least moved same = record {
-      peel = spider_peel s.graph q here next phase g r.well_formed output fresh zero_phase added h toggle t.graph moved;
-      id = least ∙ least_is s.graph r.well_formed r.numbered;
-      table = same;
-    }
+-- the last spider of a wire isn't corrected yet
+pub here_uncorrected : (s : GraphSoFar) (q here : ℕ) → IsReady s → HasPlainOutput s.graph q here → member here (order_of s.table) ≡ false
+here_uncorrected s q here r output =
+    unlisted (seen s.graph) s.table (Flows-from (seen s.graph) s.table r.flow) here (member-places s.graph.outputs q (plain here) output)
 
 -- ---- Phase
 pub phase_peel : (s : Graph) (q here k before after : ℕ) (plane : Plane) (t : Graph) → WellFormed s → HasPlainOutput s q here →
@@ -137,15 +121,6 @@ phase_peel s q here k before after plane t w output was becomes set = record {
   edges = ap (λ (h : Graph). h.edges) set;
   inputs = ap (λ (h : Graph). h.inputs) set;
   outputs = ap (λ (h : Graph). h.outputs) set;
-}
-
-pub phase_step : (s : GraphSoFar) (q here k before after : ℕ) (plane : Plane) (t : GraphSoFar) → IsReady s → HasPlainOutput s.graph q here →
-    in_plane plane before ≡ kind_of s.graph.vertices here → in_plane plane after ≡ with_phase_added k (in_plane plane before) →
-    t.graph ≡ record { vertices = with_kinds (at_vertex here (λ _. in_plane plane after)) s.graph.vertices; edges = s.graph.edges; inputs = s.graph.inputs; outputs = s.graph.outputs } →
-    t.table ≡ s.table → IsPhaseStep s q k t
-phase_step s q here k before after plane t r output was becomes set same = record {
-  peel = phase_peel s.graph q here k before after plane t.graph r.well_formed output was becomes set;
-  table = same;
 }
 
 -- ---- Cz
@@ -164,11 +139,4 @@ toggle_peel s p q u v t w h i n toggle = record {
   ordered_too = w.edges;
   edges = λ a b _. toggle.edges a b;
   frame = toggle.frame;
-}
-
-pub toggle_step : (s : GraphSoFar) (p q u v : ℕ) (t : GraphSoFar) → IsReady s → HasPlainOutput s.graph p u → HasPlainOutput s.graph q v → p ≢ q →
-    IsToggle s.graph u v t.graph → t.table ≡ s.table → IsToggleStep s p q t
-toggle_step s p q u v t r h i n toggle same = record {
-  peel = toggle_peel s.graph p q u v t.graph r.well_formed h i n toggle;
-  table = same;
 }

@@ -24,7 +24,7 @@ use Rattle.circuit_laws.proofs.Places.{plain_at}
 use Rattle.circuit_graph.specs.Translation.{by_hadamards, written_out, last_spider, translated, translated_table, IsTranslation}
 use Rattle.circuit_graph.specs.Internal.Runs.{GraphSoFar, begun, IsReady, IsGateStep, IsRun, Translates}
 use Rattle.circuit_graph.proofs.RunLemmas.{run_comes, run-append}
-use Rattle.circuit_graph.proofs.Calls.{here_live, here_still_live, here_apart, new_live, spider_step, toggle_step, wires_apart}
+use Rattle.circuit_graph.proofs.Calls.{here_live, here_there, here_other, new_live, spider_put, spider_step, toggle_peel, wires_apart}
 use Rattle.circuit_graph.proofs.Beginning.{begun_ready}
 use Rattle.circuit_graph.proofs.Wiring.{wires_formed}
 use Rattle.circuit_graph.proofs.Whole.{run_translates}
@@ -53,7 +53,8 @@ module _ (s : GraphSoFar) (r : IsReady s) where
   hadamard : (q : ℕ) → q < length s.graph.outputs → HasRun s (H q ∷ [])
   hadamard q lt =
       one_step (H q) t
-      (spider_step s q here next 0 g r (has_output q lt) fresh refl refl h toggle t refl refl (record { order = refl; members = λ v w. refl }))
+      (spider_step s q here next t r (spider_put s.graph q here next 0 g r.well_formed (has_output q lt) fresh refl refl h toggle t.graph refl refl)
+      (record { order = refl; members = λ v w. refl }))
     where
       here : ℕ
       here = last_spider s.graph q
@@ -73,7 +74,7 @@ module _ (s : GraphSoFar) (r : IsReady s) where
       toggle : IsToggle g here next h
       toggle =
           toggled_is_toggle g here next (insert_kept s.graph (spider_of_phase_zero next) r.well_formed fresh (omega arith))
-          (here_still_live s q here next 0 g r (has_output q lt) fresh refl refl) (new_live s.graph next 0 g fresh refl refl) (here_apart s q here next 0 g r (has_output q lt) fresh refl refl)
+          (here_there s.graph q here next 0 g r.well_formed (has_output q lt) fresh refl refl) (new_live s.graph next 0 g fresh refl refl) (here_other s.graph q here next 0 g r.well_formed (has_output q lt) fresh refl refl)
 
       t : GraphSoFar
       t = record {
@@ -89,9 +90,12 @@ module _ (s : GraphSoFar) (r : IsReady s) where
   cz : (p q : ℕ) → p < length s.graph.outputs → q < length s.graph.outputs → p ≢ q → HasRun s (Cz p q ∷ [])
   cz p q lt lt' apart =
       one_step (Cz p q) (record { graph = toggled s.graph u v; table = s.table })
-      (toggle_step s p q u v (record { graph = toggled s.graph u v; table = s.table }) r (has_output p lt) (has_output q lt') apart
-      (toggled_is_toggle s.graph u v r.well_formed (here_live s.graph p u r.well_formed (has_output p lt)) (here_live s.graph q v r.well_formed (has_output q lt'))
-      (wires_apart s.graph p q u v r.well_formed (has_output p lt) (has_output q lt') apart)) refl)
+      (record {
+        peel = toggle_peel s.graph p q u v (toggled s.graph u v) r.well_formed (has_output p lt) (has_output q lt') apart
+            (toggled_is_toggle s.graph u v r.well_formed (here_live s.graph p u r.well_formed (has_output p lt)) (here_live s.graph q v r.well_formed (has_output q lt'))
+            (wires_apart s.graph p q u v r.well_formed (has_output p lt) (has_output q lt') apart));
+        table = refl;
+      })
     where
       u : ℕ
       u = last_spider s.graph p

@@ -1,3 +1,4 @@
 pub mod Translation
 pub mod Worked
+pub mod Behind
 pub mod Internal

@@ -11,6 +11,7 @@
 //!
 //! Inside:
 //!
+//! - `behind`: one gate put behind the outputs of a graph, also where the graph is simplified meanwhile.
 //! - `wires`: the translation under way, gate by gate; each method ensures that it takes the one
 //!   step of its gate.
 //! - `translation`: `translate`.
@@ -21,10 +22,12 @@
 //! ```
 #![tactic(auto)]
 
+mod behind;
 mod laws;
 mod translation;
 mod wires;
 
+pub use behind::{last_spider, put_edge, put_hadamard, put_phase};
 pub use laws::worked_translations;
 pub use translation::{Placed, Translation, scalar_of, translate, translate_placed};
 pub use wires::wires_alone;

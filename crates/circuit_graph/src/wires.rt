@@ -2,12 +2,12 @@
 
 ghost use Rattle.std.specs.Prelude.{◌≡◌, ◌≢◌, ◌<◌, length, IfOk, OnOk};
 ghost use Rattle.zx_calculus.specs.Graph.{WellFormed};
-ghost use Rattle.circuit_laws.specs.Peeling.{HasPlainOutput};
 ghost use Rattle.zx_gates.specs.Circuit.{IsOnQubits};
 ghost use Rattle.circuit_graph.specs.Translation.{by_hadamards, phase_vertex, wires};
 ghost use Rattle.circuit_graph.specs.Internal.Wires.{graph_so_far};
 ghost use Rattle.circuit_graph.specs.Internal.Runs.{begun, IsReady, IsSpiderStep, IsPhaseStep, IsToggleStep, IsRun};
 
+use crate::behind::{last_spider, put_edge, put_hadamard, put_phase};
 use open_graph::{End, OpenGraph, Plane, VertexId};
 use std::alloc::{AllocError, Global};
 use zx_flow::FlowTable;
@@ -72,18 +72,9 @@ impl Wires {
         ensures { result ≡ phase_vertex self.now.graph.graph gate }
     {
         match gate {
-            Gate::Phase(q, _) => Some(self.last_spider(q)),
+            Gate::Phase(q, _) => Some(last_spider(&self.graph, q)),
             _ => None,
         }
-    }
-
-    // The last spider of a wire.
-    fn last_spider(&self, q: Qubit) -> VertexId
-        requires ready { IsReady (graph_so_far self.now) }
-        requires on_wires { q < length self.now.graph.graph.outputs }
-        ensures { HasPlainOutput self.now.graph.graph q result }
-    {
-        self.graph.output_vertex(usize::from(q))
     }
 
     // An edge joins the last spider to a new one of phase 0, which is the last one from here on, and corrects it.
@@ -95,10 +86,7 @@ impl Wires {
         ensures outputs { OnOk result (length self.new.graph.graph.outputs ≡
             length self.old.graph.graph.outputs) }
     {
-        let here = self.last_spider(q);
-        let next = self.graph.add_vertex(Plane::XY, Sixteenth::new(0))?;
-        self.graph.toggle_edge(here, next)?;
-        self.graph.move_output(usize::from(q), End::plain(next));
+        let (here, next) = put_hadamard(&mut self.graph, q)?;
         self.table.add(here, &[next])
     }
 
@@ -111,9 +99,7 @@ impl Wires {
         ensures outputs { length self.new.graph.graph.outputs ≡
             length self.old.graph.graph.outputs }
     {
-        let here = self.last_spider(q);
-        let (plane, before) = self.graph.weight(here);
-        self.graph.set_weight(here, plane, before.add(phase));
+        put_phase(&mut self.graph, q, phase);
     }
 
     // The edge between the last spiders comes where there is none, and goes where there is one.
@@ -127,9 +113,7 @@ impl Wires {
         ensures outputs { OnOk result (length self.new.graph.graph.outputs ≡
             length self.old.graph.graph.outputs) }
     {
-        let first = self.last_spider(p);
-        let second = self.last_spider(q);
-        self.graph.toggle_edge(first, second)
+        put_edge(&mut self.graph, p, q)
     }
 }
 

@@ -1,6 +1,6 @@
 -- The order of a flow beside gates that are put behind the graph, and beside steps.
 use Rattle.std.proofs.Common.{◌≡◌, refl, sym, ◌∙◌, ap, subst, ℕ, suc, ◌<◌, ◌≤◌, true, length, arith}
-use Rattle.zx_calculus.specs.Graph.{Graph, ids, IsVertex, WellFormed}
+use Rattle.zx_calculus.specs.Graph.{Graph, ids, WellFormed}
 use Rattle.zx_calculus.specs.Splits.{least_free}
 use Rattle.zx_calculus.proofs.LeastFree.{least_free-fresh}
 use Rattle.move_laws.specs.Ranks.{HasFlowBy, rank_in, ranked}
@@ -9,7 +9,6 @@ use Rattle.zx_gates.specs.declared.gate.Gate.{Gate}
 use Rattle.zx_gates.specs.declared.gate.Gate.TheVariants.{H, Phase, Cz, Cx, Not}
 use Rattle.circuit_laws.specs.Peeling.{are_plain, HasPlainOutput}
 use Rattle.circuit_graph.specs.Translation.{wires, last_spider}
-use Rattle.circuit_graph.proofs.Calls.{here_live}
 use Rattle.circuit_graph.proofs.Graphs.{last_spider_is}
 use Rattle.growing_laws.specs.Growing.{IsFree, placed}
 use Rattle.growing_laws.proofs.FlowsGrown.{spider_ranked, phase_ranked, edge_ranked}
@@ -89,8 +88,11 @@ ordered_gate gate none before h plain on is o = record {
 
 -- what a struct holds is what is seen of it
 module _ (inside seen : Ordered) (is : inside ≡ seen) where
-  pub there_inside : (q u : ℕ) → WellFormed seen.graph → HasPlainOutput seen.graph q u → IsVertex inside.graph u
-  there_inside q u w at = subst (λ (o : Ordered). IsVertex o.graph u) (sym is) (here_live seen.graph q u w at)
+  pub plain_there : are_plain seen.graph.outputs ≡ true → are_plain inside.graph.outputs ≡ true
+  plain_there plain = ap (λ (o : Ordered). are_plain o.graph.outputs) is ∙ plain
+
+  pub on_qubits_there : (q : ℕ) → q < length seen.graph.outputs → q < length inside.graph.outputs
+  on_qubits_there q on = subst (λ (o : Ordered). q < length o.graph.outputs) (sym is) on
 
   pub gate_inside : (gate : Gate) → AddsNone gate → (h : Graph) → are_plain seen.graph.outputs ≡ true → IsOnQubits (length seen.graph.outputs) gate →
       h ≡ placed 0 seen.graph gate → IsOrdered seen → IsOrdered (record inside { graph = h })

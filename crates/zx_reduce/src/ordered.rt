@@ -14,10 +14,10 @@ ghost use Rattle.zx_reduce.specs.Internal.Guiding.{HasFlowIn};
 ghost use Rattle.zx_reduce.specs.Internal.Ordering.{IsOrdered};
 
 use crate::ranks::Ranks;
-use circuit_graph::wires_alone;
+use circuit_graph::{last_spider, put_edge, put_hadamard, put_phase, wires_alone};
 use flow_find::find_by_rank;
 use graph_rewrites::Step;
-use open_graph::{End, OpenGraph, Plane, VertexId};
+use open_graph::{OpenGraph, VertexId};
 use std::alloc::{AllocError, Global};
 use std::marker::Model;
 use zx_flow::Flow;
@@ -76,14 +76,12 @@ impl Ordered {
     pub(crate) fn last_spider(&self, q: Qubit) -> VertexId
         requires plain { are_plain self.now.graph.outputs ≡ true }
         requires on_qubits { q < length self.now.graph.outputs }
-        ensures value { HasPlainOutput self.now.graph q result }
-        ensures valid { WellFormed self.now.graph }
+        ensures { HasPlainOutput self.now.graph q result }
     {
-        self.graph.output_vertex(usize::from(q))
+        last_spider(&self.graph, q)
     }
 
-    /// Puts H behind the output of a qubit: an edge joins the vertex there to a new spider of phase 0,
-    /// which takes its place. Answers that.
+    /// Puts H behind the output of a qubit, and answers the new spider.
     pub(crate) fn add_hadamard(&mut self, q: Qubit) -> Result<VertexId, AllocError>
         requires plain { are_plain self.old.graph.outputs ≡ true }
         requires on_qubits { q < length self.old.graph.outputs }
@@ -91,10 +89,7 @@ impl Ordered {
         ensures gate { IfOk result (λ new. self.new.graph ≡ placed new self.old.graph (H q)) }
         ensures ordered { OnOk result (IsOrdered self.old → IsOrdered self.new) }
     {
-        let here = self.last_spider(q);
-        let next = self.graph.add_vertex(Plane::XY, Sixteenth::new(0))?;
-        self.graph.toggle_edge(here, next)?;
-        self.graph.move_output(usize::from(q), End::plain(next));
+        let (here, next) = put_hadamard(&mut self.graph, q)?;
         self.order.add_last(here)?;
         Ok(next)
     }
@@ -107,9 +102,7 @@ impl Ordered {
         ensures gate { self.new.graph ≡ placed 0 self.old.graph (Phase q phase) }
         ensures ordered { IsOrdered self.old → IsOrdered self.new }
     {
-        let here = self.last_spider(q);
-        let (plane, before) = self.graph.weight(here);
-        self.graph.set_weight(here, plane, before.add(phase));
+        put_phase(&mut self.graph, q, phase);
     }
 
     /// Puts Cz behind the outputs of two qubits.
@@ -121,9 +114,7 @@ impl Ordered {
         ensures gate { OnOk result (self.new.graph ≡ placed 0 self.old.graph (Cz p q)) }
         ensures ordered { OnOk result (IsOrdered self.old → IsOrdered self.new) }
     {
-        let first = self.last_spider(p);
-        let second = self.last_spider(q);
-        self.graph.toggle_edge(first, second)
+        put_edge(&mut self.graph, p, q)
     }
 
     /// Does a step that is allowed, and answers its scalar: the sum before is so many times the sum after. A vertex that

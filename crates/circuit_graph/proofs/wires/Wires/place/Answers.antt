@@ -6,5 +6,5 @@ use Rattle.circuit_graph.proofs.wires.Wires.place.Goals as goal
 
 pub returns-in-Phase : goal.returns-in-Phase
 returns-in-Phase c =
-    ap Some (sym (last_spider_is c.args.self.now.graph.graph.outputs c.in-Phase.q c.last_spider.result c.last_spider.ensures))
+    ap Some (sym (last_spider_is c.args.self.now.graph.graph.outputs c.in-Phase.q c.last_spider.result c.last_spider.ensures.value))
     ∙ sym (ap (phase_vertex c.args.self.now.graph.graph) c.in-Phase.is)

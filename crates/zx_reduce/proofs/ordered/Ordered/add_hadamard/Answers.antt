@@ -1,62 +1,47 @@
 -- The gate that the new spider is.
-use Rattle.std.proofs.Common.{◌≡◌, ◌∙◌, ◌<◌, ap₂, set, subst, sym, true, length}
-use Rattle.zx_calculus.specs.Graph.{WellFormed}
+use Rattle.std.proofs.Common.{◌≡◌, ◌∙◌, ap, subst, sym}
 use Rattle.zx_gates.specs.declared.gate.Gate.TheVariants.{H}
-use Rattle.circuit_laws.specs.Peeling.{are_plain, HasPlainOutput}
-use Rattle.growing_laws.specs.Growing.{placed}
+use Rattle.circuit_laws.specs.Peeling.{HasPlainOutput}
+use Rattle.circuit_graph.specs.Translation.{with_spider}
+use Rattle.circuit_graph.proofs.Graphs.{spider_is}
+use Rattle.growing_laws.specs.Growing.{IsFree, placed}
 use Rattle.zx_reduce.specs.Internal.Ordering.{Ordered, IsOrdered}
-use Rattle.circuit_graph.proofs.Calls.{here_there, new_live, here_other, next_there, next_plane_there, next_free_there, spider_comes}
-use Rattle.zx_reduce.proofs.GatesOrdered.{ordered_spider}
+use Rattle.zx_reduce.proofs.GatesOrdered.{plain_there, on_qubits_there, ordered_spider}
 use Rattle.zx_reduce.proofs.ordered.Ordered.add_hadamard.Goals as goal
+use Rattle.zx_reduce.proofs.ordered.Ordered.add_hadamard.Goals.{In_ok-add_last}
 
-pub toggle_edge-requires-clause-u_live : goal.toggle_edge-requires-clause-u_live
-toggle_edge-requires-clause-u_live c =
-    here_there c.self.inside.graph.graph c.args.q c.last_spider-here.result c.in_ok-next.next c.new.result c.add_vertex.new.self.graph (subst (λ (o : Ordered). WellFormed o.graph) (sym c.self.view_is) c.last_spider-here.ensures.valid) (subst (λ (o : Ordered). HasPlainOutput o.graph c.args.q c.last_spider-here.result) (sym c.self.view_is) c.last_spider-here.ensures.value) c.in_ok-next.ensures.fresh c.new.ensures c.in_ok-next.ensures.ok
+pub put_hadamard-requires-clause-plain : goal.put_hadamard-requires-clause-plain
+put_hadamard-requires-clause-plain c = plain_there _ c.args.self.now c.self.view_is c.requires.plain
 
-pub toggle_edge-requires-clause-v_live : goal.toggle_edge-requires-clause-v_live
-toggle_edge-requires-clause-v_live c =
-    new_live c.self.inside.graph.graph c.in_ok-next.next c.new.result c.add_vertex.new.self.graph c.in_ok-next.ensures.fresh c.new.ensures c.in_ok-next.ensures.ok
+pub put_hadamard-requires-clause-on_qubits : goal.put_hadamard-requires-clause-on_qubits
+put_hadamard-requires-clause-on_qubits c = on_qubits_there _ c.args.self.now c.self.view_is c.args.q c.requires.on_qubits
 
-pub toggle_edge-requires-clause-different : goal.toggle_edge-requires-clause-different
-toggle_edge-requires-clause-different c =
-    here_other c.self.inside.graph.graph c.args.q c.last_spider-here.result c.in_ok-next.next c.new.result c.add_vertex.new.self.graph (subst (λ (o : Ordered). WellFormed o.graph) (sym c.self.view_is) c.last_spider-here.ensures.valid) (subst (λ (o : Ordered). HasPlainOutput o.graph c.args.q c.last_spider-here.result) (sym c.self.view_is) c.last_spider-here.ensures.value) c.in_ok-next.ensures.fresh c.new.ensures c.in_ok-next.ensures.ok
+-- the new spider is free in the graph that the struct holds, which becomes that with the gate
+fresh_there : (c : In_ok-add_last) → IsFree c.in_ok-here.next c.self.inside.graph.graph
+fresh_there c =
+    let put = c.in_ok-here.ensures.put in
+    subst (λ v. IsFree v c.self.inside.graph.graph) put.spider_is put.peel.fresh
 
-pub move_output-requires-clause-live : goal.move_output-requires-clause-live
-move_output-requires-clause-live c =
-    rw c.plain.ensures
-    (next_there c.self.inside.graph.graph c.args.q c.last_spider-here.result c.in_ok-next.next c.new.result c.add_vertex.new.self.graph (subst (λ (o : Ordered). WellFormed o.graph) (sym c.self.view_is) c.last_spider-here.ensures.valid) (subst (λ (o : Ordered). HasPlainOutput o.graph c.args.q c.last_spider-here.result) (sym c.self.view_is) c.last_spider-here.ensures.value) c.in_ok-next.ensures.fresh c.new.ensures c.in_ok-next.ensures.ok c.toggle_edge.new.self.graph c.in_ok-toggle_edge.ensures.ok)
+gate_there : (c : In_ok-add_last) → c.put_hadamard.new.g.graph ≡ placed c.in_ok-here.next c.self.inside.graph.graph (H c.args.q)
+gate_there c =
+    let g = c.self.inside.graph.graph in
+    let put = c.in_ok-here.ensures.put in
+    spider_is g c.args.q c.put_hadamard.new.g.graph c.in_ok-here.ensures.valid put.peel ∙ ap (λ v. with_spider v c.args.q g) put.spider_is
 
-pub move_output-requires-clause-plane : goal.move_output-requires-clause-plane
-move_output-requires-clause-plane c =
-    rw c.plain.ensures
-    (next_plane_there c.self.inside.graph.graph c.args.q c.last_spider-here.result c.in_ok-next.next c.new.result c.add_vertex.new.self.graph (subst (λ (o : Ordered). WellFormed o.graph) (sym c.self.view_is) c.last_spider-here.ensures.valid) (subst (λ (o : Ordered). HasPlainOutput o.graph c.args.q c.last_spider-here.result) (sym c.self.view_is) c.last_spider-here.ensures.value) c.in_ok-next.ensures.fresh c.new.ensures c.in_ok-next.ensures.ok c.toggle_edge.new.self.graph c.in_ok-toggle_edge.ensures.ok)
-
-pub move_output-requires-clause-free : goal.move_output-requires-clause-free
-move_output-requires-clause-free c =
-    rw c.plain.ensures
-    (next_free_there c.self.inside.graph.graph c.args.q c.last_spider-here.result c.in_ok-next.next c.new.result c.add_vertex.new.self.graph (subst (λ (o : Ordered). WellFormed o.graph) (sym c.self.view_is) c.last_spider-here.ensures.valid) (subst (λ (o : Ordered). HasPlainOutput o.graph c.args.q c.last_spider-here.result) (sym c.self.view_is) c.last_spider-here.ensures.value) c.in_ok-next.ensures.fresh c.new.ensures c.in_ok-next.ensures.ok c.toggle_edge.new.self.graph c.in_ok-toggle_edge.ensures.ok _)
+pub returns-clause-fresh : goal.returns-clause-fresh
+returns-clause-fresh c = subst (λ (o : Ordered). IsFree c.in_ok-here.next o.graph) c.self.view_is (fresh_there c)
 
 pub returns-clause-gate : goal.returns-clause-gate
 returns-clause-gate c =
-    subst (λ (o : Ordered). c.move_output.new.self.graph ≡ placed c.in_ok-next.next o.graph (H c.args.q)) c.self.view_is
-    (spider_comes c.self.inside.graph.graph c.args.q c.last_spider-here.result c.in_ok-next.next c.new.result c.add_vertex.new.self.graph (subst (λ (o : Ordered). WellFormed o.graph) (sym c.self.view_is) c.last_spider-here.ensures.valid) (subst (λ (o : Ordered). HasPlainOutput o.graph c.args.q c.last_spider-here.result) (sym c.self.view_is) c.last_spider-here.ensures.value) c.in_ok-next.ensures.fresh c.new.ensures c.in_ok-next.ensures.ok c.toggle_edge.new.self.graph c.in_ok-toggle_edge.ensures.ok
-    c.move_output.new.self.graph c.move_output.ensures.valid
-    (c.move_output.ensures.ok
-    ∙ ap₂ (λ i e. record {
-      vertices = c.toggle_edge.new.self.graph.vertices;
-      edges = c.toggle_edge.new.self.graph.edges;
-      inputs = c.toggle_edge.new.self.graph.inputs;
-      outputs = set c.toggle_edge.new.self.graph.outputs i e;
-    }) c.from.ensures c.plain.ensures))
+    subst (λ (o : Ordered). c.put_hadamard.new.g.graph ≡ placed c.in_ok-here.next o.graph (H c.args.q)) c.self.view_is (gate_there c)
 
 pub returns-clause-ordered : goal.returns-clause-ordered
 returns-clause-ordered c =
     let order = c.self.inside.order in
-    let before : Ordered = record { graph = c.self.inside.graph.graph; ranks = order.ranks; low = order.low; high = order.high } in
-    let back = sym c.self.view_is in
-    λ o. ordered_spider c.in_ok-next.next c.args.q c.last_spider-here.result before _
-    (subst (λ (o : Ordered). are_plain o.graph.outputs ≡ true) back c.requires.plain)
-    (subst (λ (o : Ordered). c.args.q < length o.graph.outputs) back c.requires.on_qubits) c.in_ok-next.ensures.fresh
-    (subst (λ (o : Ordered). HasPlainOutput o.graph c.args.q c.last_spider-here.result) back c.last_spider-here.ensures.value)
-    (subst (λ (o : Ordered). c.move_output.new.self.graph ≡ placed c.in_ok-next.next o.graph (H c.args.q)) back (returns-clause-gate c))
-    c.in_ok-add_last.ensures.ranks c.in_ok-add_last.ensures.low c.in_ok-add_last.ensures.high (subst (λ (p : Ordered). IsOrdered p) back o)
+    let g = c.self.inside.graph.graph in
+    let before : Ordered = record { graph = g; ranks = order.ranks; low = order.low; high = order.high } in
+    let put = c.in_ok-here.ensures.put in
+    λ o. ordered_spider c.in_ok-here.next c.args.q c.in_ok-here.here before _
+    (plain_there _ c.args.self.now c.self.view_is c.requires.plain) (on_qubits_there _ c.args.self.now c.self.view_is c.args.q c.requires.on_qubits)
+    (fresh_there c) (subst (HasPlainOutput g c.args.q) put.here_is put.peel.output) (gate_there c)
+    c.in_ok-add_last.ensures.ranks c.in_ok-add_last.ensures.low c.in_ok-add_last.ensures.high (subst (λ (p : Ordered). IsOrdered p) (sym c.self.view_is) o)

@@ -1,15 +1,15 @@
--- The vertex at the place.
-use Rattle.std.proofs.Common.{◌∙◌, ap, sym, subst}
-use Rattle.std.specs.Prelude.{slice_get}
-use Rattle.zx_calculus.specs.Graph.{end_vertices}
-use Rattle.circuit_laws.specs.Peeling.{are_plain, HasPlainOutput}
-use Rattle.circuit_laws.proofs.Places.{plain_at}
+-- The vertex at the output of the graph.
+use Rattle.std.proofs.Common.{sym, subst}
+use Rattle.circuit_laws.specs.Peeling.{HasPlainOutput}
 use Rattle.zx_reduce.specs.Internal.Ordering.{Ordered}
+use Rattle.zx_reduce.proofs.GatesOrdered.{plain_there, on_qubits_there}
 use Rattle.zx_reduce.proofs.ordered.Ordered.last_spider.Goals as goal
 
-pub returns-clause-value : goal.returns-clause-value
-returns-clause-value c =
-    let outputs = c.self.inside.graph.graph.outputs in
-    subst (λ (o : Ordered). HasPlainOutput o.graph c.args.q c.output_vertex.result) c.self.view_is
-    (plain_at outputs c.args.q c.output_vertex.result (ap (λ (o : Ordered). are_plain o.graph.outputs) c.self.view_is ∙ c.requires.plain)
-    (ap (slice_get (end_vertices outputs)) (sym c.from.ensures) ∙ c.output_vertex.ensures.value))
+pub last_spider-requires-clause-plain : goal.last_spider-requires-clause-plain
+last_spider-requires-clause-plain c = plain_there _ c.args.self.now c.self.view_is c.requires.plain
+
+pub last_spider-requires-clause-on_qubits : goal.last_spider-requires-clause-on_qubits
+last_spider-requires-clause-on_qubits c = on_qubits_there _ c.args.self.now c.self.view_is c.args.q c.requires.on_qubits
+
+pub returns : goal.returns
+returns c = subst (λ (o : Ordered). HasPlainOutput o.graph c.args.q c.last_spider.result) c.self.view_is c.last_spider.ensures.value

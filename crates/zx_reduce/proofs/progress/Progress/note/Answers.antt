@@ -10,5 +10,5 @@ last_spider-v-requires-clause-plain c = plain_inside _ c.args.self.now c.self.vi
 pub returns : goal.returns
 returns c =
     on_ok_weaker c.add_to.result
-    (note_inside _ c.args.self.now c.self.view_is c.args.gate c.args.q c.args.phase c.last_spider-v.result c.add_to.new.phases c.last_spider-v.ensures.value)
+    (note_inside _ c.args.self.now c.self.view_is c.args.gate c.args.q c.args.phase c.last_spider-v.result c.add_to.new.phases c.last_spider-v.ensures)
     c.add_to.ensures
