@@ -2,7 +2,8 @@
 
 ghost use Rattle.std.specs.Prelude.{◌≡◌, ◌≤◌, ◌<◌, ◌+◌, ◌++◌, [], ◌∷◌, length, slice_set, take, drop};
 ghost use Rattle.std.specs.Prelude.{IfOk, OnOk, OnErr};
-ghost use Rattle.zx_gates.specs.Circuit.{Circuit, IsCircuit, IsOnQubits, HasRoom, gate_limit, most_qubits, circuit_of};
+ghost use Rattle.std.specs.List.{All};
+ghost use Rattle.zx_gates.specs.Circuit.{Circuit, IsCircuit, IsGateOn, IsOnQubits, HasRoom, gate_limit, most_qubits, circuit_of};
 
 use crate::gate::{Gate, Qubit};
 use std::alloc::{AllocError, Global};
@@ -135,6 +136,18 @@ impl GateList {
             })?;
         }
         self.gates.push(gate)?;
+        Ok(())
+    }
+
+    /// Adds gates after all others, in their order. Where memory runs out, some of them may be there.
+    pub fn push_all(&mut self, gates: &[Gate]) -> Result<(), AllocError>
+        requires { All (IsGateOn self.old.qubits) gates.now }
+        ensures qubits { OnOk result (self.new.qubits ≡ self.old.qubits) }
+        ensures gates { OnOk result (self.new.gates ≡ self.old.gates ++ gates.now) }
+    {
+        for gate in gates {
+            self.push(*gate)?;
+        }
         Ok(())
     }
 

@@ -1,9 +1,8 @@
 //! Gates that are the identity, put into circuits.
 
 ghost use Rattle.std.specs.Prelude.{◌≡◌, ◌++◌, ◌*◌, true, IfOk, IfSome, OnOk};
-ghost use Rattle.std.specs.List.{All};
 ghost use Rattle.zx_model.specs.Scalar.{IsWithin, one_scalar, product_of_scalars, quotient_of_scalars};
-ghost use Rattle.zx_gates.specs.Circuit.{IsGateOn, gate_limit, gate_odd_phases};
+ghost use Rattle.zx_gates.specs.Circuit.{gate_limit, gate_odd_phases};
 ghost use Rattle.zx_gates.specs.Maps.{amp};
 ghost use Rattle.zx_gates.specs.Passes.{Implements};
 ghost use Rattle.piece_laws.specs.Replacement.{AreScaled};
@@ -14,7 +13,7 @@ ghost use Rattle.zx_identities.specs.Internal.Inserting.{Fits, inserted, IsResca
 use crate::checking::is_identity;
 use crate::inversion::{push_inverse, undone_scalar};
 use std::alloc::{AllocError, Global};
-use zx_gates::{Gate, GateList, ScaledCircuit};
+use zx_gates::{GateList, ScaledCircuit};
 use zx_model::Scalar;
 
 // The greatest exponent of the root of two, in size.
@@ -158,21 +157,9 @@ fn push_with_gates(
     ensures gates { OnOk result (made.new.gates ≡ made.old.gates ++ inserted circuit.now.gates insertion.now) }
 {
     let gates = circuit.gates();
-    append(made, &gates[..insertion.place])?;
-    append(made, insertion.frame.gates())?;
-    append(made, insertion.inner.gates())?;
+    made.push_all(&gates[..insertion.place])?;
+    made.push_all(insertion.frame.gates())?;
+    made.push_all(insertion.inner.gates())?;
     push_inverse(made, &insertion.frame)?;
-    append(made, &gates[insertion.place..])
-}
-
-// Adds gates after all others.
-fn append(made: &mut GateList, gates: &[Gate]) -> Result<(), AllocError>
-    requires { All (IsGateOn made.old.qubits) gates.now }
-    ensures qubits { OnOk result (made.new.qubits ≡ made.old.qubits) }
-    ensures gates { OnOk result (made.new.gates ≡ made.old.gates ++ gates.now) }
-{
-    for gate in gates {
-        made.push(*gate)?;
-    }
-    Ok(())
+    made.push_all(&gates[insertion.place..])
 }

@@ -4,7 +4,7 @@ use Rattle.std.specs.List.{All}
 use Rattle.std.proofs.lemmas.List.{length-append, length-drop, drop-drop, nil_from_length, take-append-drop}
 use Rattle.std.proofs.lemmas.List.Sorted.{length_permutation}
 use Rattle.std.proofs.Math.Nat.{eq-or-lt_of_le}
-use Rattle.zx_model.specs.Scalar.{IsScaled, product_of_scalars}
+use Rattle.zx_model.specs.Scalar.{IsScaled, IsWithin, product_of_scalars}
 use Rattle.zx_model.specs.declared.scalar.Scalar.{Scalar}
 use Rattle.zx_model.proofs.Scalars.{scaled_trans}
 use Rattle.zx_gates.specs.Circuit.{Circuit, IsGateOn}
@@ -17,7 +17,7 @@ use Rattle.piece_laws.proofs.Reorderings.{reordered-append, reordered_gates}
 use Rattle.piece_laws.proofs.Replacements.{All-parts, replaced_in_front, replacement-refl, replacement-trans}
 use Rattle.piece_laws.proofs.Scaling.{scaled_part, front_map}
 use Rattle.zx_pieces.specs.Scaling.{most_root2_of_pass}
-use Rattle.zx_pieces.specs.Internal.Working.{IsAt, IsRescaled, Adds}
+use Rattle.zx_pieces.specs.Internal.Working.{AddsScaled, IsAt, IsRescaled}
 use Rattle.zx_pieces.specs.declared.replacing.Work.{Work}
 
 -- the gates of the window are on the qubits
@@ -60,15 +60,14 @@ rescaled_by n before piece new after s factor t same is scaled = λ f behind e.
     (scaled_trans n n f (amp (before ++ piece ++ behind)) (amp (before ++ new ++ behind)) s factor e (scaled_part n before piece new behind factor scaled)))
 
 -- the piece replaces itself, and the scalar stays
-pub adds_itself : (n : ℕ) (before piece after : List Gate) → after ≡ before ++ piece → All (IsGateOn n) piece → Adds n before piece after
-adds_itself n before piece after same all = record {
-  new = piece;
-  gates = same;
-  replaces = replacement-refl n piece all;
+pub adds_as_read : (piece before after : Circuit) (s : Scalar) → All (IsGateOn piece.qubits) piece.gates → IsWithin most_root2_of_pass s
+    → after.qubits ≡ before.qubits → after.gates ≡ before.gates ++ piece.gates → AddsScaled piece before after s s
+adds_as_read piece before after s on small qubits same = record {
+  qubits = qubits;
+  adds = record { new = piece.gates; gates = same; replaces = replacement-refl piece.qubits piece.gates on };
+  scalar = λ f behind e. subst (λ gs. IsScaled piece.qubits piece.qubits f s (amp (gs ++ behind))) (sym same) e;
+  small = small;
 }
-
-pub rescaled_same : (n : ℕ) (old new : List Gate) (s : Scalar) → new ≡ old → IsRescaled n old new s s
-rescaled_same n old new s same = λ f behind e. subst (λ gs. IsScaled n n f s (amp (gs ++ behind))) (sym same) e
 
 -- the window gets the next gates
 pub filled : (passed gates : List Gate) (next count : ℕ) → passed ++ take count (drop next gates) ++ drop (next + count) gates ≡ passed ++ drop next gates

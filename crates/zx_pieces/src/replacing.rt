@@ -7,7 +7,7 @@ ghost use Rattle.zx_gates.specs.Circuit.{gate_odd_phases, most_qubits, IsCircuit
 ghost use Rattle.zx_gates.specs.Passes.{Preserves};
 ghost use Rattle.piece_laws.specs.Places.{ArePlaces, placed};
 ghost use Rattle.piece_laws.specs.Replacement.{AreScaled, IsNoLarger, IsReplacement};
-ghost use Rattle.zx_pieces.specs.Internal.Working.{Adds, IsAt, IsRescaled, left_of};
+ghost use Rattle.zx_pieces.specs.Internal.Working.{AddsScaled, IsAt, left_of};
 ghost use Rattle.zx_pieces.specs.Scaling.{most_root2_of_pass};
 
 use crate::manner::{Effort, Manner};
@@ -155,12 +155,7 @@ fn add_piece(
     requires piece { IsCircuit piece.now }
     requires same { done.old.qubits ≡ piece.now.qubits }
     requires small { IsWithin most_root2_of_pass scalar }
-    ensures qubits { OnOk result (done.new.qubits ≡ done.old.qubits) }
-    ensures adds { OnOk result
-        (Adds piece.now.qubits done.old.gates piece.now.gates done.new.gates) }
-    ensures scalar { IfOk result (IsRescaled piece.now.qubits
-        (done.old.gates ++ piece.now.gates) done.new.gates scalar) }
-    ensures small { IfOk result (IsWithin most_root2_of_pass) }
+    ensures { IfOk result (AddsScaled piece.now done.old done.new scalar) }
 {
     match replacement(alloc, piece, places, effort)? {
         Some(made) => add_smaller(done, scalar, &made.gates, made.scalar, piece),
@@ -186,12 +181,7 @@ fn add_smaller(
     requires replacement { IsReplacement piece.now.qubits piece.now.gates made.now.gates }
     requires scaled { AreScaled piece.now.qubits piece.now.gates factor made.now.gates }
     requires small { IsWithin most_root2_of_pass scalar }
-    ensures qubits { OnOk result (done.new.qubits ≡ done.old.qubits) }
-    ensures adds { OnOk result
-        (Adds piece.now.qubits done.old.gates piece.now.gates done.new.gates) }
-    ensures scalar { IfOk result (IsRescaled piece.now.qubits
-        (done.old.gates ++ piece.now.gates) done.new.gates scalar) }
-    ensures small { IfOk result (IsWithin most_root2_of_pass) }
+    ensures { IfOk result (AddsScaled piece.now done.old done.new scalar) }
 {
     match product(&scalar, &factor) {
         Some(product) => {

@@ -56,33 +56,44 @@ fn numbers_stand_beside_their_kinds(rt: HostRuntime) -> Result<(), Fail> {
     Ok(())
 }
 
-#[test]
-fn circuits_without_gates_have_zeros(rt: HostRuntime) -> Result<(), Fail> {
-    let lines: [&[u8]; 2] = [
-        b"// read gates 0 odd 0 two-qubit 0 h 0 phase 0 cz 0 cx 0 not 0\n",
-        b"// written gates 0 odd 0 two-qubit 0 h 0 phase 0 cz 0 cx 0 not 0\n",
-    ];
-    assert!(rt; is_reported(rt.alloc(), &NONE, &NONE, &lines)?);
-    Ok(())
-}
-
 // The numbers of these gates, on two qubits.
 fn counted(rt: &impl Abort, alloc: Global, gates: &[Gate]) -> Result<Counts, Fail> {
     let list = circuit(rt, alloc, 2, gates)?;
     Ok(counts(&list))
 }
 
+// Of these gates, read and written, the report has these lines.
+fn lines_are(
+    rt: &impl Abort,
+    alloc: Global,
+    read: &[Gate],
+    written: &[Gate],
+    lines: [&[u8]; 2],
+) -> Result<(), Fail> {
+    let read = counted(rt, alloc, read)?;
+    let written = counted(rt, alloc, written)?;
+    assert!(rt; is_reported(alloc, &read, &written, &lines)?);
+    Ok(())
+}
+
+#[test]
+fn circuits_without_gates_have_zeros(rt: HostRuntime) -> Result<(), Fail> {
+    let lines: [&[u8]; 2] = [
+        b"// read gates 0 odd 0 two-qubit 0 h 0 phase 0 cz 0 cx 0 not 0\n",
+        b"// written gates 0 odd 0 two-qubit 0 h 0 phase 0 cz 0 cx 0 not 0\n",
+    ];
+    lines_are(&rt, rt.alloc(), &[], &[], lines)
+}
+
 // Two T, which are one S.
 #[test]
 fn two_t_become_one_s(rt: HostRuntime) -> Result<(), Fail> {
-    let read = counted(&rt, rt.alloc(), &[phase(0, 2), phase(0, 2)])?;
-    let written = counted(&rt, rt.alloc(), &[phase(0, 4)])?;
     let lines: [&[u8]; 2] = [
         b"// read gates 2 odd 2 two-qubit 0 h 0 phase 2 cz 0 cx 0 not 0\n",
         b"// written gates 1 odd 0 two-qubit 0 h 0 phase 1 cz 0 cx 0 not 0\n",
     ];
-    assert!(rt; is_reported(rt.alloc(), &read, &written, &lines)?);
-    Ok(())
+    let two = [phase(0, 2), phase(0, 2)];
+    lines_are(&rt, rt.alloc(), &two, &[phase(0, 4)], lines)
 }
 
 // Each kind of gate, in numbers that differ.
@@ -97,12 +108,9 @@ fn kinds_of_gates_are_told_apart(rt: HostRuntime) -> Result<(), Fail> {
         phase(1, 14),
         phase(1, 8),
     ];
-    let read = counted(&rt, rt.alloc(), &gates)?;
-    let written = counted(&rt, rt.alloc(), &[])?;
     let lines: [&[u8]; 2] = [
         b"// read gates 7 odd 1 two-qubit 3 h 1 phase 2 cz 1 cx 2 not 1\n",
         b"// written gates 0 odd 0 two-qubit 0 h 0 phase 0 cz 0 cx 0 not 0\n",
     ];
-    assert!(rt; is_reported(rt.alloc(), &read, &written, &lines)?);
-    Ok(())
+    lines_are(&rt, rt.alloc(), &gates, &[], lines)
 }

@@ -83,10 +83,7 @@ fn join_three(rt: &impl Abort, graph: &mut OpenGraph) -> Result<(), AllocError> 
 
 #[test]
 fn edges_join_neighbours(rt: HostRuntime) -> Result<(), AllocError> {
-    let mut graph = OpenGraph::new(rt.alloc());
-    let done = join_three(&rt, &mut graph);
-    drop(graph);
-    done
+    join_three(&rt, &mut OpenGraph::new(rt.alloc()))
 }
 
 // Toggles the edges among the neighbours of a vertex.
@@ -123,10 +120,7 @@ fn toggle_rows(rt: &impl Abort, graph: &mut OpenGraph) -> Result<(), AllocError>
 
 #[test]
 fn edges_are_toggled_by_rows(rt: HostRuntime) -> Result<(), AllocError> {
-    let mut graph = OpenGraph::new(rt.alloc());
-    let done = toggle_rows(&rt, &mut graph);
-    drop(graph);
-    done
+    toggle_rows(&rt, &mut OpenGraph::new(rt.alloc()))
 }
 
 fn add_input(rt: &impl Abort, graph: &mut OpenGraph, end: End) -> Result<(), AllocError> {
@@ -189,10 +183,7 @@ fn add_and_move(rt: &impl Abort, graph: &mut OpenGraph) -> Result<(), AllocError
 
 #[test]
 fn ends_are_added_and_moved(rt: HostRuntime) -> Result<(), AllocError> {
-    let mut graph = OpenGraph::new(rt.alloc());
-    let done = add_and_move(&rt, &mut graph);
-    drop(graph);
-    done
+    add_and_move(&rt, &mut OpenGraph::new(rt.alloc()))
 }
 
 fn turn(rt: &impl Abort, graph: &mut OpenGraph, v: VertexId) -> Plane {
@@ -229,10 +220,7 @@ fn turn_and_remove(rt: &impl Abort, graph: &mut OpenGraph) -> Result<(), AllocEr
 
 #[test]
 fn vertices_are_turned_and_removed(rt: HostRuntime) -> Result<(), AllocError> {
-    let mut graph = OpenGraph::new(rt.alloc());
-    let done = turn_and_remove(&rt, &mut graph);
-    drop(graph);
-    done
+    turn_and_remove(&rt, &mut OpenGraph::new(rt.alloc()))
 }
 
 // The id of a new vertex.
@@ -265,10 +253,7 @@ fn add_again(rt: &impl Abort, graph: &mut OpenGraph) -> Result<(), AllocError> {
 
 #[test]
 fn a_removed_id_comes_again_the_least_first(rt: HostRuntime) -> Result<(), AllocError> {
-    let mut graph = OpenGraph::new(rt.alloc());
-    let done = add_again(&rt, &mut graph);
-    drop(graph);
-    done
+    add_again(&rt, &mut OpenGraph::new(rt.alloc()))
 }
 
 // Joins 1 to 3, and with more room to 2.
@@ -293,8 +278,5 @@ fn add_row_again(rt: &impl Abort, graph: &mut OpenGraph) -> Result<(), AllocErro
 
 #[test]
 fn rows_are_kept_for_ids_below_the_reach(rt: HostRuntime) -> Result<(), AllocError> {
-    let mut graph = OpenGraph::new(rt.alloc());
-    let done = add_row_again(&rt, &mut graph);
-    drop(graph);
-    done
+    add_row_again(&rt, &mut OpenGraph::new(rt.alloc()))
 }

@@ -134,8 +134,7 @@ fn has_split(trace: &Trace) -> bool {
 }
 
 // So many drawn gates.
-fn drawn(rt: &impl Abort, alloc: Global, seed: u64, gates: usize) -> Result<GateList, Fail> {
-    let mut seed = seed;
+fn drawn(rt: &impl Abort, alloc: Global, mut seed: u64, gates: usize) -> Result<GateList, Fail> {
     let mut given = GateList::new(alloc, QUBITS);
     for _ in 0..gates {
         add(rt, &mut given, drawn_gate(&mut seed))?;

@@ -1,6 +1,6 @@
 //! Sources, outputs and error outputs that fail at one call, at each in turn. One call moves 20 bytes.
 
-use super::streams::{Outcome, READ_FAULT, has_error_output, has_outcome};
+use super::streams::{Outcome, READ_FAULT, USAGE, has_error_output, has_outcome};
 use std::alloc::AllocError;
 use std::process::Abort;
 use zx_run::{Fault, Status};
@@ -84,14 +84,7 @@ fn error_outputs_that_fail_change_no_answer(rt: HostRuntime) -> Result<(), Alloc
             Status::Refused(Fault::Syntax { at: 0 }),
             b"zxopt: fault 3 Syntax at 0\n",
         ),
-        (
-            &[],
-            b"",
-            0,
-            0,
-            Status::Usage,
-            b"usage: zxopt opt [--best] [--report] [--scalar] | reduce | flow | graph | gen SEED QUBITS GATES | compile | teleport | same\n",
-        ),
+        (&[], b"", 0, 0, Status::Usage, USAGE),
         (
             &["opt"],
             TEXT,

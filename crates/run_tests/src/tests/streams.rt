@@ -13,6 +13,10 @@ pub struct Outcome<'a> {
     pub err: &'a [u8],
 }
 
+// The line about words that are no command.
+pub const USAGE: &[u8] =
+    b"usage: zxopt opt [--best] [--report] [--scalar] | reduce | flow | graph | gen SEED QUBITS GATES | compile | teleport | same\n";
+
 // Where a read fails before all of the text is read.
 pub const READ_FAULT: Outcome = Outcome {
     status: Status::ReadFault,

@@ -1,6 +1,6 @@
 //! The bytes of worked examples.
 
-use super::streams::{Outcome, has_outcome};
+use super::streams::{Outcome, USAGE, has_outcome};
 use std::alloc::AllocError;
 use zx_run::{Fault, Status};
 
@@ -100,13 +100,7 @@ fn worked_runs_write_these_bytes(rt: HostRuntime) -> Result<(), AllocError> {
             b"",
             b"zxopt: fault 2 BadByte at 47\n",
         ),
-        (
-            &["Opt"],
-            b"",
-            Status::Usage,
-            b"",
-            b"usage: zxopt opt [--best] [--report] [--scalar] | reduce | flow | graph | gen SEED QUBITS GATES | compile | teleport | same\n",
-        ),
+        (&["Opt"], b"", Status::Usage, b"", USAGE),
     ];
     for (i, (words, text, status, out, err)) in rows.into_iter().enumerate() {
         let outcome = Outcome { status, out, err };

@@ -3,6 +3,7 @@ use Rattle.std.specs.Prelude.{◌≡◌, ◌≤◌, ◌+◌, ◌-◌, ℕ, Bool,
 use Rattle.zx_model.specs.Number.{Number}
 use Rattle.zx_model.specs.Scalar.{IsScaled, IsWithin}
 use Rattle.zx_model.specs.declared.scalar.Scalar.{Scalar}
+use Rattle.zx_gates.specs.Circuit.{Circuit}
 use Rattle.zx_gates.specs.Maps.{amp}
 use Rattle.zx_gates.specs.declared.gate.Gate.{Gate}
 use Rattle.piece_laws.specs.Replacement.{AreScaled, IsReplacement}
@@ -32,3 +33,10 @@ pub record Adds (n : ℕ) (before piece after : List Gate) : Type 0 where
 abbrev pub IsRescaled : ℕ → (old new : List Gate) → Scalar → Scalar → Type 0
 IsRescaled n old new s t = (f : List Bool → List Bool → Number) (behind : List Gate) →
     IsScaled n n f s (amp (old ++ behind)) → IsScaled n n f t (amp (new ++ behind))
+
+-- a piece's gates were added to a circuit, or gates that replace them, which turns one scalar into another
+pub record AddsScaled (piece before after : Circuit) (s t : Scalar) : Type 0 where
+  pub qubits : after.qubits ≡ before.qubits
+  pub adds : Adds piece.qubits before.gates piece.gates after.gates
+  pub scalar : IsRescaled piece.qubits (before.gates ++ piece.gates) after.gates s t
+  pub small : IsWithin most_root2_of_pass t

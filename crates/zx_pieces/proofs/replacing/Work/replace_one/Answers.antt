@@ -58,11 +58,9 @@ returns-clause-at c =
 
 pub returns-clause-fewer : goal.returns-clause-fewer
 returns-clause-fewer c =
-    let old = c.args.self.now in
-    let gates = c.args.gates.now in
-    let window = c.fill.new.self.passed.items in
     let walk = c.in_ok-walk.walk in
-    fewer_left old.passed.items window walk.piece.gates walk.passed.items gates old.next c.fill.new.self.next c.in_ok-fill.ensures.same
+    fewer_left c.args.self.now.passed.items c.fill.new.self.passed.items walk.piece.gates walk.passed.items c.args.gates.now c.args.self.now.next c.fill.new.self.next
+    c.in_ok-fill.ensures.same
     (subst (λ gs. IsReordered gs (walk.piece.gates ++ walk.passed.items)) c.deref.ensures.value c.in_ok-walk.ensures.order)
     (c.in_ok-walk.ensures.some
     (subst (λ (gs : List Gate). 0 < length gs) (sym c.deref.ensures.value) (c.in_ok-fill.ensures.some c.requires.some)))
