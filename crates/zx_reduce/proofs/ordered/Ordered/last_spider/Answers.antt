@@ -1,5 +1,5 @@
 -- The vertex at the output of the graph.
-use Rattle.std.proofs.Common.{sym, subst}
+use Rattle.std.proofs.Common.{subst}
 use Rattle.circuit_laws.specs.Peeling.{HasPlainOutput}
 use Rattle.zx_reduce.specs.Internal.Ordering.{Ordered}
 use Rattle.zx_reduce.proofs.GatesOrdered.{plain_there, on_qubits_there}
