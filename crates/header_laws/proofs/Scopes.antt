@@ -6,7 +6,7 @@ use Rattle.std.proofs.Common.{refl, sym, ap, ap₂, ◌∙◌}
 use Rattle.std.proofs.lemmas.Bool.{false≢true, and_parts, or_parts}
 use Rattle.std.proofs.lemmas.Slice.Eq.{bytes_eq-Decides}
 use Rattle.qasm_angle.specs.declared.angle.Angle.{Angle}
-use Rattle.qasm_reader.specs.Syntax.{Callee, Declared, U, Cx, GateForm, BodySentence, BodyApplied, BodyBarrier}
+use Rattle.qasm_reader.specs.Syntax.{Callee, Declared, GateForm, BodySentence, BodyApplied, BodyBarrier}
 use Rattle.qasm_scope.specs.Angles.{angles_of, place_of}
 use Rattle.qasm_scope.specs.Calls.{Called, after_angles, expand, body_call, expand_meaning, expand_declared}
 use Rattle.qasm_scope.specs.HeaderGates.{first_gates, further_gates}
@@ -39,8 +39,7 @@ module _ (known one other : Scope) (agree : Agree known one other) where
   same_gate : (gate : Callee) → knows_gate known gate ≡ true → (depth : ℕ) (angles : List Angle) (qubits : List ℕ)
       → expand (λ n d a q. expand_declared one n d a q) gate depth angles qubits ≡ expand (λ n d a q. expand_declared other n d a q) gate depth angles qubits
   same_gate (Declared name) e depth angles qubits = (agree.same name e).events depth angles qubits
-  same_gate U e depth angles qubits = refl
-  same_gate Cx e depth angles qubits = refl
+  same_gate _ e depth angles qubits = refl
 
   module _ (form : GateForm) (depth : ℕ) (angles : List Angle) (qubits : List ℕ) where
     same_call : (b : BodySentence) → knows known b ≡ true
