@@ -55,10 +55,9 @@ _UNKNOWN = (
     (r"\b(?:ghost|requires|ensures|decreases|prove|syntax|Model)\b", "a word of clauses"),
     (rf"#!?\[(?!{_ATTRIBUTES}\])", "an attribute"),
     (rf"(?<![\w:])std::(?!{_OF_RUST[5:]})", "a path of std"),
-    (rf"(?<![\w:])(?!(?:{_MACROS})!)(?:\w+::)*\w+!\s*[(\[{{]", "a macro"),
     (r"\bDrop\b", "a bound or a derive of Drop"),
     (r"\brt;", "a macro of the runtime"),
-    (r"\b(?:unsafe|extern|macro_rules|dyn|static \w+:|async)\b", "an item or a type"),
+    (r"\b(?:unsafe|extern|dyn|static \w+:|async)\b", "an item or a type"),
     (rf"/\*|\br#*(?:\"|{LITERAL})", "a long comment or a raw literal"),
 )
 
@@ -74,9 +73,15 @@ def write_in_rust(source: Source, traits: set[str]) -> None:
     _drop_unused_imports(source, traits)
     _mark_unused_parameters(source)
     _elide_lifetimes(source)
-    for pattern, what in _UNKNOWN:
+    for pattern, what in ((_macro_of_others(source), "a macro"), *_UNKNOWN):
         if found := re.search(pattern, source.code):
             raise source.unknown(found.start(), what)
+
+
+def _macro_of_others(source: Source) -> str:
+    """The pattern of a macro that is neither known nor the file's own."""
+    known = [_MACROS, *re.findall(r"\bmacro_rules! (\w+)", source.code)]
+    return rf"(?<![\w:])(?!(?:{'|'.join(known)})!)(?:\w+::)*\w+!\s*[(\[{{]"
 
 
 def _rusts_derives(found: re.Match[str]) -> str:

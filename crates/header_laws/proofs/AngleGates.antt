@@ -22,7 +22,7 @@ use Rattle.qasm_scope.specs.Calls.{u_of, Applied, Called}
 use Rattle.qasm_scope.specs.Meaning.{with_header}
 use Rattle.zx_model.specs.Constants.{i, two}
 use Rattle.header_laws.specs.Gates.{rotation_x, rotation_y, rotation_z, rotation_zz, three_rotations, single}
-use Rattle.header_laws.specs.Calls.{header_events, HasMap}
+use Rattle.header_laws.specs.Calls.{HasMap}
 use Rattle.header_laws.proofs.Comes.{comes, has_map}
 use Rattle.header_laws.proofs.Certificates.{Certified, certified, at_phases}
 use Rattle.header_laws.proofs.Phases.{phase_below}
@@ -100,67 +100,40 @@ rzz_certified = at_phases rzz_gates rotation_zz refl
 
 -- ---- the gates
 module _ (a : Angle) (k : ℕ) (e : phase_of_angle a ≡ Some k) where
-  u1_events : header_events (codes "u1") (a ∷ []) (0 ∷ []) ≡ Called 2 ∷ Applied (U 0 0 0 k) ∷ []
-  unfolding with_header angle_of values.applied gcd lowest limited phase_of_angle literal_value decimal
-  u1_events = ap (λ p. Called 2 ∷ (u_of 0 (Some 0) (Some 0) p ++ [])) e
-
   pub u1_map : HasMap (codes "u1") (a ∷ []) (0 ∷ []) (single (phase k))
-  u1_map = has_map (comes u1_events refl) (unitary_map 0 0 k (phase k) two two_nonzero (about_z k))
-
-  p_events : header_events (codes "p") (a ∷ []) (0 ∷ []) ≡ Called 2 ∷ Applied (U 0 0 0 k) ∷ []
   unfolding with_header angle_of values.applied gcd lowest limited phase_of_angle literal_value decimal
-  p_events = ap (λ p. Called 2 ∷ (u_of 0 (Some 0) (Some 0) p ++ [])) e
+  u1_map = has_map (comes (ap (λ p. Called 2 ∷ (u_of 0 (Some 0) (Some 0) p ++ [])) e) refl) (unitary_map 0 0 k (phase k) two two_nonzero (about_z k))
 
   pub p_map : HasMap (codes "p") (a ∷ []) (0 ∷ []) (single (phase k))
-  p_map = has_map (comes p_events refl) (unitary_map 0 0 k (phase k) two two_nonzero (about_z k))
-
-  rz_events : header_events (codes "rz") (a ∷ []) (0 ∷ []) ≡ Called 2 ∷ Called 3 ∷ Applied (U 0 0 0 k) ∷ []
   unfolding with_header angle_of values.applied gcd lowest limited phase_of_angle literal_value decimal
-  rz_events = ap (λ p. Called 2 ∷ ((Called 3 ∷ (u_of 0 (Some 0) (Some 0) p ++ [])) ++ [])) e
+  p_map = has_map (comes (ap (λ p. Called 2 ∷ (u_of 0 (Some 0) (Some 0) p ++ [])) e) refl) (unitary_map 0 0 k (phase k) two two_nonzero (about_z k))
 
   pub rz_map : HasMap (codes "rz") (a ∷ []) (0 ∷ []) (single (rotation_z k))
-  rz_map = has_map (comes rz_events refl) (unitary_map 0 0 k (phase k) two two_nonzero (about_z k))
-
-  rx_events : header_events (codes "rx") (a ∷ []) (0 ∷ []) ≡ Called 2 ∷ Called 3 ∷ Applied (U 0 k (half_turn + quarter_turn) quarter_turn) ∷ []
   unfolding with_header angle_of values.applied gcd lowest limited phase_of_angle literal_value decimal
-  rx_events = ap (λ p. Called 2 ∷ ((Called 3 ∷ (u_of 0 p (Some (half_turn + quarter_turn)) (Some quarter_turn) ++ [])) ++ [])) e
+  rz_map = has_map (comes (ap (λ p. Called 2 ∷ ((Called 3 ∷ (u_of 0 (Some 0) (Some 0) p ++ [])) ++ [])) e) refl) (unitary_map 0 0 k (phase k) two two_nonzero (about_z k))
 
   pub rx_map : HasMap (codes "rx") (a ∷ []) (0 ∷ []) (single (rotation_x k))
-  rx_map = has_map (comes rx_events refl) (unitary_map k (half_turn + quarter_turn) quarter_turn (rotation_x k) one one_nonzero (about_x k))
-
-  ry_events : header_events (codes "ry") (a ∷ []) (0 ∷ []) ≡ Called 2 ∷ Called 3 ∷ Applied (U 0 k 0 0) ∷ []
   unfolding with_header angle_of values.applied gcd lowest limited phase_of_angle literal_value decimal
-  ry_events = ap (λ p. Called 2 ∷ ((Called 3 ∷ (u_of 0 p (Some 0) (Some 0) ++ [])) ++ [])) e
+  rx_map = has_map (comes (ap (λ p. Called 2 ∷ ((Called 3 ∷ (u_of 0 p (Some (half_turn + quarter_turn)) (Some quarter_turn) ++ [])) ++ [])) e) refl) (unitary_map k (half_turn + quarter_turn) quarter_turn (rotation_x k) one one_nonzero (about_x k))
 
   pub ry_map : HasMap (codes "ry") (a ∷ []) (0 ∷ []) (single (rotation_y k))
-  ry_map = has_map (comes ry_events refl) (unitary_map k 0 0 (rotation_y k) one one_nonzero (about_y k))
-
-  rzz_events : header_events (codes "rzz") (a ∷ []) (0 ∷ 1 ∷ []) ≡ Called 2 ∷ Called 3 ∷ Applied (Cx 0 1) ∷ Called 2 ∷ Called 3 ∷ Applied (U 1 0 0 k) ∷ Called 2 ∷ Called 3 ∷ Applied (Cx 0 1) ∷ []
   unfolding with_header angle_of values.applied gcd lowest limited phase_of_angle literal_value decimal
-  rzz_events = ap (λ p. Called 2 ∷ Called 3 ∷ Applied (Cx 0 1) ∷ Called 2 ∷ ((Called 3 ∷ (u_of 1 (Some 0) (Some 0) p ++ [])) ++ Called 2 ∷ Called 3 ∷ Applied (Cx 0 1) ∷ [])) e
+  ry_map = has_map (comes (ap (λ p. Called 2 ∷ ((Called 3 ∷ (u_of 0 p (Some 0) (Some 0) ++ [])) ++ [])) e) refl) (unitary_map k 0 0 (rotation_y k) one one_nonzero (about_y k))
 
   pub rzz_map : HasMap (codes "rzz") (a ∷ []) (0 ∷ 1 ∷ []) (rotation_zz k)
-  rzz_map = has_map (comes rzz_events refl) (certified (rzz_certified k (phase_below a k e)))
+  unfolding with_header angle_of values.applied gcd lowest limited phase_of_angle literal_value decimal
+  rzz_map = has_map (comes (ap (λ p. Called 2 ∷ Called 3 ∷ Applied (Cx 0 1) ∷ Called 2 ∷ ((Called 3 ∷ (u_of 1 (Some 0) (Some 0) p ++ [])) ++ Called 2 ∷ Called 3 ∷ Applied (Cx 0 1) ∷ [])) e) refl) (certified (rzz_certified k (phase_below a k e)))
 
 module _ (a b : Angle) (j k : ℕ) (e : phase_of_angle a ≡ Some j) (f : phase_of_angle b ≡ Some k) where
-  u2_events : header_events (codes "u2") (a ∷ b ∷ []) (0 ∷ []) ≡ Called 2 ∷ Applied (U 0 quarter_turn j k) ∷ []
-  unfolding with_header angle_of values.applied gcd lowest limited phase_of_angle literal_value decimal
-  u2_events = ap₂ (λ p q. Called 2 ∷ (u_of 0 (Some quarter_turn) p q ++ [])) e f
-
   pub u2_map : HasMap (codes "u2") (a ∷ b ∷ []) (0 ∷ []) (single (three_rotations quarter_turn j k))
-  u2_map = has_map (comes u2_events refl) (unitary_map quarter_turn j k (three_rotations quarter_turn j k) one one_nonzero (rotations quarter_turn j k))
+  unfolding with_header angle_of values.applied gcd lowest limited phase_of_angle literal_value decimal
+  u2_map = has_map (comes (ap₂ (λ p q. Called 2 ∷ (u_of 0 (Some quarter_turn) p q ++ [])) e f) refl) (unitary_map quarter_turn j k (three_rotations quarter_turn j k) one one_nonzero (rotations quarter_turn j k))
 
 module _ (a b c : Angle) (i j k : ℕ) (e : phase_of_angle a ≡ Some i) (f : phase_of_angle b ≡ Some j) (g : phase_of_angle c ≡ Some k) where
-  u3_events : header_events (codes "u3") (a ∷ b ∷ c ∷ []) (0 ∷ []) ≡ Called 2 ∷ Applied (U 0 i j k) ∷ []
-  unfolding with_header angle_of
-  u3_events = ap (λ p. Called 2 ∷ (u_of 0 p (phase_of_angle b) (phase_of_angle c) ++ [])) e ∙ ap₂ (λ p q. Called 2 ∷ (u_of 0 (Some i) p q ++ [])) f g
-
   pub u3_map : HasMap (codes "u3") (a ∷ b ∷ c ∷ []) (0 ∷ []) (single (three_rotations i j k))
-  u3_map = has_map (comes u3_events refl) (unitary_map i j k (three_rotations i j k) one one_nonzero (rotations i j k))
-
-  u_events : header_events (codes "u") (a ∷ b ∷ c ∷ []) (0 ∷ []) ≡ Called 2 ∷ Applied (U 0 i j k) ∷ []
   unfolding with_header angle_of
-  u_events = ap (λ p. Called 2 ∷ (u_of 0 p (phase_of_angle b) (phase_of_angle c) ++ [])) e ∙ ap₂ (λ p q. Called 2 ∷ (u_of 0 (Some i) p q ++ [])) f g
+  u3_map = has_map (comes (ap (λ p. Called 2 ∷ (u_of 0 p (phase_of_angle b) (phase_of_angle c) ++ [])) e ∙ ap₂ (λ p q. Called 2 ∷ (u_of 0 (Some i) p q ++ [])) f g) refl) (unitary_map i j k (three_rotations i j k) one one_nonzero (rotations i j k))
 
   pub u_map : HasMap (codes "u") (a ∷ b ∷ c ∷ []) (0 ∷ []) (single (three_rotations i j k))
-  u_map = has_map (comes u_events refl) (unitary_map i j k (three_rotations i j k) one one_nonzero (rotations i j k))
+  unfolding with_header angle_of
+  u_map = has_map (comes (ap (λ p. Called 2 ∷ (u_of 0 p (phase_of_angle b) (phase_of_angle c) ++ [])) e ∙ ap₂ (λ p q. Called 2 ∷ (u_of 0 (Some i) p q ++ [])) f g) refl) (unitary_map i j k (three_rotations i j k) one one_nonzero (rotations i j k))

@@ -2,8 +2,8 @@
 use Rattle.std.specs.Prelude.{◌≡◌, ◌≢◌, ◌<◌, ◌==◌, ℕ, zero as nought, suc, Bool, true, false, ◌&&◌, not, List, [], ◌∷◌, length}
 use Rattle.std.specs.List.{All}
 use Rattle.std.specs.Ordering.{int_eq}
-use Rattle.std.proofs.Common.{ltb, refl, sym, ap, ◌∙◌, arith}
-use Rattle.std.proofs.lemmas.Bool.{true≢false, false≢true, ltb-true}
+use Rattle.std.proofs.Common.{ltb, sym, ap, ◌∙◌, arith}
+use Rattle.std.proofs.lemmas.Bool.{true≢false, ltb-true, not-true}
 use Rattle.std.proofs.lemmas.List.Elements.{All-cons}
 use Rattle.std.proofs.lemmas.Bool.Decides.{Decides-int_eq, Decides-eqb}
 use Rattle.zx_model.specs.Cyclotomic.{Cyclotomic}
@@ -48,10 +48,6 @@ equal-is a b e =
     (equal_cyclotomic-is a.plain b.plain (and-left _ _ e))
     (equal_cyclotomic-is a.turned b.turned (and-right (equal_cyclotomic a.plain b.plain) _ e))
 
-not-true : (b : Bool) → not b ≡ true → b ≡ false
-not-true false e = refl
-not-true true e = absurd (false≢true e)
-
 nonzero : (a : Number) → not (equal a zero) ≡ true → a ≢ zero
 nonzero a e z = absurd (true≢false (sym (ap (λ b. equal b zero) z) ∙ not-true (equal a zero) e))
 
@@ -62,10 +58,9 @@ on_all (suc n) p = on_all n (λ x. p (false ∷ x)) && on_all n (λ x. p (true �
 
 on_all-each : (n : ℕ) (p : List Bool → Bool) → on_all n p ≡ true → (x : List Bool) → length x ≡ n → p x ≡ true
 on_all-each nought p e [] l = e
-on_all-each nought p e (b ∷ x) l = absurd (omega arith)
-on_all-each (suc n) p e [] l = absurd (omega arith)
 on_all-each (suc n) p e (false ∷ x) l = on_all-each n (λ x. p (false ∷ x)) (and-left _ _ e) x (omega arith)
 on_all-each (suc n) p e (true ∷ x) l = on_all-each n (λ x. p (true ∷ x)) (and-right _ _ e) x (omega arith)
+on_all-each _ p e _ l = absurd (omega arith)
 
 -- the gates are on the first n qubits
 abbrev is_on : ℕ → ElementaryGate → Bool

@@ -41,16 +41,14 @@ roots_of_x = each_pair (λ row column. product root_of_x other_root_of_x row col
 
 -- the rotations at the power of a half turn, which is minus one
 pub half_turn_x : (row column : Bool) → rotation_x half_turn row column ≡ mul two (pauli_x row column)
-half_turn_x false false = ap (add one) root_power-half_turn ∙ simp expand
 half_turn_x false true = ap (λ r. add one (neg r)) root_power-half_turn ∙ simp expand
 half_turn_x true false = ap (λ r. add one (neg r)) root_power-half_turn ∙ simp expand
-half_turn_x true true = ap (add one) root_power-half_turn ∙ simp expand
+half_turn_x _ _ = ap (add one) root_power-half_turn ∙ simp expand
 
 pub half_turn_y : (row column : Bool) → rotation_y half_turn row column ≡ mul two (pauli_y row column)
-half_turn_y false false = ap (add one) root_power-half_turn ∙ simp expand
 half_turn_y false true = ap (λ r. mul i (add r (neg one))) root_power-half_turn ∙ simp expand
 half_turn_y true false = ap (λ r. mul i (add one (neg r))) root_power-half_turn ∙ simp expand
-half_turn_y true true = ap (add one) root_power-half_turn ∙ simp expand
+half_turn_y _ _ = ap (add one) root_power-half_turn ∙ simp expand
 
 pub toffoli : (x y : List Bool) → length x ≡ 3 → length y ≡ 3 → controlled one (controlled one (single pauli_x)) x y ≡ (if same_bits (bit x 0 ∷ bit x 1 ∷ xor (bit x 0 && bit x 1) (bit x 2) ∷ []) y then one else zero)
 unfolding add mul neg root_power add_cyclotomic mul_cyclotomic neg_cyclotomic

@@ -119,12 +119,9 @@ module _ (a half : Angle) (k : ℕ) (e : half_of a ≡ Ok half) (f : phase_of_an
   pub crz_map : HasMap (codes "crz") (a ∷ []) (0 ∷ 1 ∷ []) (controlled (root_power k) (single (rotation_z (2 * k))))
   crz_map = has_map (comes (crz_events 1) refl) (certified (crz_certified k below))
 
-  crx_events : header_events (codes "crx") (a ∷ []) (0 ∷ 1 ∷ []) ≡ h_at 2 ++ ((Called 2 ∷ crz_calls k 3) ++ h_at 2)
-  unfolding with_header angle_of values.applied gcd lowest limited phase_of_angle literal_value decimal
-  crx_events = ap (λ events. h_at 2 ++ ((Called 2 ∷ events) ++ h_at 2)) (crz_events 2)
-
   pub crx_map : HasMap (codes "crx") (a ∷ []) (0 ∷ 1 ∷ []) (controlled (mul two (root_power k)) (single (rotation_x (2 * k))))
-  crx_map = has_map (comes crx_events refl) (certified (crx_certified k below))
+  unfolding with_header angle_of values.applied gcd lowest limited phase_of_angle literal_value decimal
+  crx_map = has_map (comes (ap (λ events. h_at 2 ++ ((Called 2 ∷ events) ++ h_at 2)) (crz_events 2)) refl) (certified (crx_certified k below))
 
   cry_events : header_events (codes "cry") (a ∷ []) (0 ∷ 1 ∷ []) ≡
       (Called 2 ∷ Called 3 ∷ Called 4 ∷ Applied (U 1 k 0 0) ∷ []) ++ cx_at 2
@@ -148,9 +145,6 @@ module _ (a half : Angle) (k : ℕ) (e : half_of a ≡ Ok half) (f : phase_of_an
   pub cu1_map : HasMap (codes "cu1") (a ∷ []) (0 ∷ 1 ∷ []) (controlled one (single (phase (2 * k))))
   cu1_map = has_map (comes cu1_events refl) (certified (cu1_certified k below))
 
-  cp_events : header_events (codes "cp") (a ∷ []) (0 ∷ 1 ∷ []) ≡ cu1_calls k
-  unfolding with_header angle_of gcd lowest limited phase_of_angle literal_value decimal
-  cp_events = cu1_events
-
   pub cp_map : HasMap (codes "cp") (a ∷ []) (0 ∷ 1 ∷ []) (controlled one (single (phase (2 * k))))
-  cp_map = has_map (comes cp_events refl) (certified (cu1_certified k below))
+  unfolding with_header angle_of gcd lowest limited phase_of_angle literal_value decimal
+  cp_map = has_map (comes cu1_events refl) (certified (cu1_certified k below))

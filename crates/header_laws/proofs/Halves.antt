@@ -11,9 +11,8 @@ use Rattle.qasm_angle.specs.Values.{opposite_angle, of_opposite, of_parts}
 use Rattle.header_laws.specs.Calls.{half_of}
 
 abs-neg : (a : ℤ) → unsigned_abs (neg_ℤ a) ≡ unsigned_abs a
-abs-neg (pos zero) = refl
 abs-neg (pos (suc n)) = refl
-abs-neg (negsuc n) = refl
+abs-neg _ = refl
 
 none-over : (g : ℕ) → 0 / g ≡ 0
 none-over g = omega arith
@@ -42,8 +41,7 @@ limited-opposite r =
 
 of_parts-opposite : (p q : Option Ratio) → of_parts (option_map opposite p) (option_map opposite q) ≡ of_opposite (of_parts p q)
 of_parts-opposite (Some a) (Some b) = refl
-of_parts-opposite (Some a) None = refl
-of_parts-opposite None q = refl
+of_parts-opposite _ _ = refl
 
 half_of-opposite : (a : Angle) → half_of (opposite_angle a) ≡ of_opposite (half_of a)
 half_of-opposite a =
@@ -57,8 +55,7 @@ half-opposite a half e = half_of-opposite a ∙ ap of_opposite e
 -- ---- phases
 within-neg : (n : ℤ) → within_a_turn (neg_ℤ n) ≡ opposite_phase (within_a_turn n)
 within-neg (pos zero) = refl
-within-neg (pos (suc n)) = omega arith
-within-neg (negsuc n) = omega arith
+within-neg _ = omega arith
 
 turns_if : (b : Bool) (n : ℤ) → option_map within_a_turn (if b then Some (neg_ℤ n) else None) ≡ option_map opposite_phase (option_map within_a_turn (if b then Some n else None))
 turns_if true n = ap Some (within-neg n)

@@ -6,7 +6,7 @@ use Rattle.std.proofs.Common.{refl, sym, ap, ap₂, ◌∙◌}
 use Rattle.std.proofs.lemmas.Bool.{false≢true, and_parts, or_parts}
 use Rattle.std.proofs.lemmas.Slice.Eq.{bytes_eq-Decides}
 use Rattle.qasm_angle.specs.declared.angle.Angle.{Angle}
-use Rattle.qasm_reader.specs.Syntax.{Callee, Declared, U, Cx, GateForm, BodySentence, BodyApplied, BodyBarrier}
+use Rattle.qasm_reader.specs.Syntax.{Callee, Declared, GateForm, BodySentence, BodyApplied, BodyBarrier}
 use Rattle.qasm_scope.specs.Angles.{angles_of, place_of}
 use Rattle.qasm_scope.specs.Calls.{Called, after_angles, expand, body_call, expand_meaning, expand_declared}
 use Rattle.qasm_scope.specs.HeaderGates.{first_gates, further_gates}
@@ -39,8 +39,7 @@ module _ (known one other : Scope) (agree : Agree known one other) where
   same_gate : (gate : Callee) → knows_gate known gate ≡ true → (depth : ℕ) (angles : List Angle) (qubits : List ℕ)
       → expand (λ n d a q. expand_declared one n d a q) gate depth angles qubits ≡ expand (λ n d a q. expand_declared other n d a q) gate depth angles qubits
   same_gate (Declared name) e depth angles qubits = (agree.same name e).events depth angles qubits
-  same_gate U e depth angles qubits = refl
-  same_gate Cx e depth angles qubits = refl
+  same_gate _ e depth angles qubits = refl
 
   module _ (form : GateForm) (depth : ℕ) (angles : List Angle) (qubits : List ℕ) where
     same_call : (b : BodySentence) → knows known b ≡ true
@@ -86,20 +85,13 @@ module _ (known one other : Scope) (agree : Agree known one other) (form : GateF
     is name false h = agree.is name h
 
 -- ---- the first gates
-first_agree : (forms : List GateForm) (known one other : Scope) → Agree known one other → knows_each known forms ≡ true
-    → Agree (with_first forms known) (with_first forms one) (with_first forms other)
-first_agree [] known one other agree e = agree
-first_agree (form ∷ forms) known one other agree e =
+first_both : (forms : List GateForm) (known one other : Scope) → Agree known one other → knows_each known forms ≡ true
+    → Agree (with_first forms known) (with_first forms one) (with_first forms other) × ((name : List ℕ) → Same one other name → Same (with_first forms one) (with_first forms other) name)
+first_both [] known one other agree e = (agree, λ name s. s)
+first_both (form ∷ forms) known one other agree e =
     let p : (list_all (knows known) form.body ≡ true) × (knows_each (as_gate form false ∷ known) forms ≡ true) = and_parts _ _ e in
-    first_agree forms (as_gate form false ∷ known) (as_gate form false ∷ one) (as_gate form false ∷ other) (push_known known one other agree form p.0 false) p.1
-
-first_same : (forms : List GateForm) (known one other : Scope) → Agree known one other → knows_each known forms ≡ true
-    → (name : List ℕ) → Same one other name → Same (with_first forms one) (with_first forms other) name
-first_same [] known one other agree e name s = s
-first_same (form ∷ forms) known one other agree e name s =
-    let p : (list_all (knows known) form.body ≡ true) × (knows_each (as_gate form false ∷ known) forms ≡ true) = and_parts _ _ e in
-    first_same forms (as_gate form false ∷ known) (as_gate form false ∷ one) (as_gate form false ∷ other)
-    (push_known known one other agree form p.0 false) p.1 name (pushed known one other agree form p.0 false name (λ f. s))
+    let later = first_both forms (as_gate form false ∷ known) (as_gate form false ∷ one) (as_gate form false ∷ other) (push_known known one other agree form p.0 false) p.1 in
+    (later.0, λ name s. later.1 name (pushed known one other agree form p.0 false name (λ f. s)))
 
 -- ---- the further gates: a declaration in one of the scopes where the name is declared in the other
 not_both : (form : GateForm) (name : List ℕ) (one other : Scope) → Same one other name → is_declared form.name one ≡ false → is_declared form.name other ≡ true
@@ -172,6 +164,5 @@ pub same_in_each_scope : (scope : Scope) (name : List ℕ) → is_declared name 
 unfolding with_header
 same_in_each_scope scope name free =
     let s : Same scope [] name = record { both = free; events = undeclared scope name free } in
-    (further_same further_gates (with_first first_gates []) (with_first first_gates scope) (with_first first_gates [])
-    (first_agree first_gates [] scope [] (none_known scope) refl) refl
-    name (first_same first_gates [] scope [] (none_known scope) refl name s)).events
+    let first = first_both first_gates [] scope [] (none_known scope) refl in
+    (further_same further_gates (with_first first_gates []) (with_first first_gates scope) (with_first first_gates []) first.0 refl name (first.1 name s)).events

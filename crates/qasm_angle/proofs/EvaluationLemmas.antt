@@ -1,9 +1,10 @@
 -- Evaluation of the steps of a tree, one after the other, gives the tree's value.
-use Rattle.std.proofs.Common.{◌≡◌, ap₂, ◌||◌, false, true, Bool, ℕ, suc, ◌<◌, ◌≤◌, List, [], ◌∷◌, ◌++◌, length, get_or, drop, Result, Ok, Err, refl, sym, ◌∙◌, ap, append_assoc, append-nil, drop-cons, length-append, arith}
+use Rattle.std.proofs.Common.{◌≡◌, ap₂, false, ℕ, suc, ◌<◌, ◌≤◌, List, [], ◌∷◌, ◌++◌, length, get_or, drop, Result, Ok, Err, refl, sym, ◌∙◌, ap, append_assoc, append-nil, drop-cons, length-append, arith}
 use Rattle.std.specs.List.{list_any}
+use Rattle.std.proofs.lemmas.Bool.{or_parts}
 use Rattle.std.proofs.lemmas.List.Folds.{list_any-append}
 use Rattle.std.proofs.Math.ListN.{drop_of_length-le}
-use Rattle.qasm_angle.specs.Trees.{Tree, Number, Pi, Parameter, Negate, Binary, postfix}
+use Rattle.qasm_angle.specs.Trees.{Tree, Parameter, Negate, Binary, postfix}
 use Rattle.qasm_angle.specs.Values.{value, of_opposite, of_operands}
 use Rattle.qasm_angle.specs.Internal.Constants.{is_parameter}
 use Rattle.qasm_angle.specs.Internal.Stack.{stepped, on_top}
@@ -47,15 +48,13 @@ after-right args right steps angles operator b h (Err c) = refl
 
 run-postfix : (t : Tree) (args : List Angle) (steps : List ExprItem) (angles : List Angle) →
     run args (postfix t ++ steps) angles ≡ after args steps angles (value t args)
-run-postfix (Number a) args steps angles = refl
-run-postfix Pi args steps angles = refl
-run-postfix (Parameter i) args steps angles = refl
 run-postfix (Negate a) args steps angles =
     ap (λ s. run args s angles) (append_assoc (postfix a) (step.Negate ∷ []) steps) ∙ run-postfix a args (step.Negate ∷ steps) angles ∙ after-opposite args steps angles (value a args)
 run-postfix (Binary operator a b) args steps angles =
     ap (λ s. run args s angles) (append_assoc (postfix a ++ postfix b) (step.Binary operator ∷ []) steps ∙ append_assoc (postfix a) (postfix b) (step.Binary operator ∷ steps))
     ∙ run-postfix a args (postfix b ++ step.Binary operator ∷ steps) angles
     ∙ after-right args (postfix b ++ step.Binary operator ∷ steps) steps angles operator (value b args) (λ x. run-postfix b args (step.Binary operator ∷ steps) (x ∷ angles)) (value a args)
+run-postfix _ args steps angles = refl
 
 alone : (args : List Angle) (r : Result Angle AngleFault) → after args [] [] r ≡ on_top r []
 alone args (Ok a) = refl
@@ -86,11 +85,9 @@ on_top-err (Ok b) c e = cc
 on_top-err (Err d) c e = cc
 
 pub some_steps : (t : Tree) → 0 < length (postfix t)
-some_steps (Number a) = omega arith
-some_steps Pi = omega arith
-some_steps (Parameter i) = omega arith
 some_steps (Negate a) = omega (arith, length-append (postfix a) (step.Negate ∷ []))
 some_steps (Binary operator a b) = omega (arith, length-append (postfix a ++ postfix b) (step.Binary operator ∷ []))
+some_steps _ = omega arith
 
 -- the steps before the last one, of which some are done
 module _ (t : Tree) (args : List Angle) (steps before : List ExprItem) (last : ExprItem) (i : ℕ) (angles : List Angle) (is : steps ≡ postfix t) (cut : steps ≡ before ++ last ∷ []) (so_far : run args (drop i before) angles ≡ run args before []) where
@@ -110,34 +107,23 @@ module _ (t : Tree) (args : List Angle) (steps before : List ExprItem) (last : E
       sym so_far ∙ ap (λ x. run args x angles) (drop-cons before i s h ∙ ap (λ x. x ∷ drop (suc i) before) (sym at)) ∙ ap (λ r. and_then r (run args (drop (suc i) before))) e in
       on_top-err (value t args) c (at_end ∙ ap (λ q. and_then q (run args (last ∷ []))) next)
 
--- neither of two tests
-neither : (a b : Bool) → (a || b) ≡ false → (a ≡ false) × (b ≡ false)
-neither true b h = absurd (cc)
-neither false b h = (refl, h)
-
 -- a tree that names no parameter is the same for all arguments
 pub value-constant : (t : Tree) (args : List Angle) → list_any is_parameter (postfix t) ≡ false → value t args ≡ value t []
-value-constant (Number a) args h = refl
-value-constant Pi args h = refl
 value-constant (Parameter i) args h = absurd (cc)
 value-constant (Negate a) args h =
-    ap of_opposite (value-constant a args (neither _ _ (sym (list_any-append is_parameter (postfix a) (step.Negate ∷ [])) ∙ h)).0)
+    ap of_opposite (value-constant a args (or_parts _ _ (sym (list_any-append is_parameter (postfix a) (step.Negate ∷ [])) ∙ h)).0)
 value-constant (Binary operator a b) args h =
-    let both = neither _ _ (sym (list_any-append is_parameter (postfix a ++ postfix b) (step.Binary operator ∷ [])) ∙ h) in
-    let each = neither _ _ (sym (list_any-append is_parameter (postfix a) (postfix b)) ∙ both.0) in
+    let both = or_parts _ _ (sym (list_any-append is_parameter (postfix a ++ postfix b) (step.Binary operator ∷ [])) ∙ h) in
+    let each = or_parts _ _ (sym (list_any-append is_parameter (postfix a) (postfix b)) ∙ both.0) in
     ap₂ (of_operands operator) (value-constant a args each.0) (value-constant b args each.1)
+value-constant _ args h = refl
 
 -- the cause that an error stands for
 pub error_of-same : (c d : AngleFault) → error_of c ≡ error_of d → c ≡ d
 error_of-same cause.Divide cause.Divide e = refl
-error_of-same cause.Divide cause.TooLarge e = cc
-error_of-same cause.Divide cause.NotAnAngle e = cc
-error_of-same cause.TooLarge cause.Divide e = cc
 error_of-same cause.TooLarge cause.TooLarge e = refl
-error_of-same cause.TooLarge cause.NotAnAngle e = cc
-error_of-same cause.NotAnAngle cause.Divide e = cc
-error_of-same cause.NotAnAngle cause.TooLarge e = cc
 error_of-same cause.NotAnAngle cause.NotAnAngle e = refl
+error_of-same _ _ e = cc
 
 -- an error that two results of one type share
 pub Err_same : {T E : Type 0} {x y : E} → ◌≡◌ {A = Result T E} (Err x) (Err y) → x ≡ y

@@ -8,10 +8,9 @@ use Rattle.qasm_angle.specs.Ratio.{gcd_within, gcd}
 
 -- enough steps are enough
 gcd_within-enough : (k j a b : ℕ) → b < k → b < j → gcd_within k a b ≡ gcd_within j a b
-gcd_within-enough zero j a b p q = absurd (omega arith)
-gcd_within-enough (suc k) zero a b p q = absurd (omega arith)
 gcd_within-enough (suc k) (suc j) a zero p q = refl
 gcd_within-enough (suc k) (suc j) a (suc b) p q = gcd_within-enough k j (suc b) (a % suc b) (omega arith) (omega arith)
+gcd_within-enough _ _ a b p q = absurd (omega arith)
 
 pub gcd-zero : (a : ℕ) → gcd a 0 ≡ a
 unfolding gcd

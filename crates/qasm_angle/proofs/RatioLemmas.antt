@@ -1,5 +1,5 @@
 -- Lowest terms and their limit.
-use Rattle.std.proofs.Common.{◌≡◌, ℕ, zero, suc, ◌/◌, ◌<◌, ◌≤◌, ◌⊎◌, ℤ, pos, negsuc, nat_abs, Some, None, Bool, true, false, refl, sym, inl, inr, arith}
+use Rattle.std.proofs.Common.{◌≡◌, ℕ, suc, ◌/◌, ◌<◌, ◌≤◌, ◌⊎◌, ℤ, pos, negsuc, nat_abs, Some, None, Bool, true, false, refl, sym, inl, inr, arith}
 use Rattle.std.specs.Prelude.{int_lt}
 use Rattle.std.proofs.lemmas.Int.{to_z-of_z, fits_signed_from_abs}
 use Rattle.std.proofs.Math.Nat.{div-le_self}
@@ -10,9 +10,8 @@ use Rattle.qasm_angle.specs.Internal.Signs.{signed}
 use Rattle.qasm_angle.proofs.GcdLemmas.{gcd-quotients, quotient_pos}
 
 pub nat_abs-signed : (negative : Bool) (size : ℕ) → nat_abs (signed negative size) ≡ size
-nat_abs-signed true zero = refl
 nat_abs-signed true (suc n) = refl
-nat_abs-signed false size = refl
+nat_abs-signed _ _ = refl
 
 -- the terms by sign and size
 pub lowest-signed : (a : ℤ) (b : ℕ) → lowest a b ≡ record { numerator = signed (int_lt a (pos 0)) (nat_abs a / gcd (nat_abs a) b); denominator = b / gcd (nat_abs a) b }

@@ -1,5 +1,5 @@
 -- An angle in lowest terms is n*pi/8 exactly where n is its number of sixteenth turns.
-use Rattle.std.proofs.Common.{◌≡◌, ℕ, zero, suc, ◌*◌, ◌/◌, ◌%◌, ◌≤◌, Bool, true, false, eqb, cond, ℤ, pos, negsuc, ◌*ℤ◌, nat_abs, Option, Some, None, refl, sym, ◌∙◌, ap, subst, arith}
+use Rattle.std.proofs.Common.{◌≡◌, ℕ, zero, ◌*◌, ◌/◌, ◌%◌, ◌≤◌, Bool, true, false, eqb, cond, ℤ, pos, ◌*ℤ◌, nat_abs, Option, Some, None, refl, sym, ◌∙◌, ap, subst, arith}
 use Rattle.std.specs.Prelude.{IfSome, IfNone}
 use Rattle.std.proofs.Math.Nat.{mul-div_cancel', dvd_of_mod-eq-zero, mod-eq-zero_of_dvd, dvd-mul_left, mul_comm}
 use Rattle.std.proofs.lemmas.Bool.{eqb-true, eqb-false}
@@ -15,8 +15,7 @@ use Rattle.qasm_angle.proofs.GcdLemmas.{divides_other, gcd_comm}
 
 zero_numerator : (a : ℤ) → nat_abs a ≤ 0 → a ≡ pos 0
 zero_numerator (pos zero) h = refl
-zero_numerator (pos (suc n)) h = absurd (omega arith)
-zero_numerator (negsuc n) h = absurd (omega arith)
+zero_numerator _ h = absurd (omega arith)
 
 -- (a * q) * d = h * a, where q * d is the half turn h
 times_quotient : (a : ℤ) (d : ℕ) → half_turn % d ≡ 0 → pos half_turn *ℤ a ≡ (a *ℤ pos (half_turn / d)) *ℤ pos d

@@ -30,8 +30,7 @@ elementary program circuit h =
 
 pub valid-from : (program : List Placed) (result : Result Elementary InlineError) → IsCircuitAnswer program result → IfOk result (λ circuit. IsElementary circuit)
 valid-from program (Ok circuit) h = elementary program circuit h
-valid-from program (Err (Fault what at)) h = tt
-valid-from program (Err NoMemory) h = tt
+valid-from program _ h = tt
 
 pub faultless-from : (program : List Placed) (result : Result Elementary InlineError) → IsCircuitAnswer program result → OnOk result (first_fault most_calls program ≡ None)
 faultless-from program (Ok circuit) h = h.0

@@ -8,7 +8,7 @@ use Rattle.zx_gates.specs.declared.elementary.Measure.{Measure}
 use Rattle.qasm_angle.specs.declared.angle.Angle.{Angle}
 use Rattle.qasm_angle.specs.Sixteenths.{phase_of_angle}
 use Rattle.qasm_reader.specs.Syntax.{Callee, Declared, U, Cx, GateForm, BodySentence, BodyApplied, BodyBarrier}
-use Rattle.qasm_reader.specs.Syntax.{Applied, Measured, Reset, Sentence, Version, Include, QubitRegister, BitRegister, DeclareGate, Opaque, If, Barrier, Act, Placed}
+use Rattle.qasm_reader.specs.Syntax.{Applied, Sentence, Version, Act, Placed}
 use Rattle.qasm_scope.specs.declared.causes.Cause.{Cause}
 use Rattle.qasm_scope.specs.declared.causes.Cause.TheVariants as cause
 use Rattle.qasm_scope.specs.Angles.{angles_of}
@@ -18,7 +18,7 @@ use Rattle.qasm_scope.specs.Calls as event
 use Rattle.qasm_scope.specs.Meaning.{after_statement, events_of, fault_after, first_fault, gates_after, is_version, wrong_with}
 use Rattle.qasm_scope.specs.Measurements.{measured_by}
 use Rattle.qasm_scope.specs.Faults.{wrong_in}
-use Rattle.qasm_scope.specs.Scope.{Scope, Meaning, Qubits, Bits, Gate, lookup_in}
+use Rattle.qasm_scope.specs.Scope.{Scope, Meaning, Gate, lookup_in}
 use Rattle.qasm_unroll.specs.Internal.KeptCalls.{u_events, cx_events}
 use Rattle.qasm_unroll.proofs.EventLemmas.{applied-append, call_count-append}
 use Rattle.qasm_unroll.proofs.MeantLemmas.{none-both, none-second, version-from, version-after}
@@ -38,24 +38,15 @@ few-flat_map f (x ∷ xs) h = few-append (f x) (flat_map f xs) (h x) (few-flat_m
 
 u_of-few : (q : ℕ) (theta phi lambda : Option ℕ) → AreFew 1 (u_of q theta phi lambda)
 u_of-few q (Some theta) (Some phi) (Some lambda) = omega arith
-u_of-few q (Some theta) (Some phi) None = omega arith
-u_of-few q (Some theta) None lambda = omega arith
-u_of-few q None phi lambda = omega arith
+u_of-few q _ _ _ = omega arith
 
 u-few : (angles : List Angle) (qubits : List ℕ) → AreFew 1 (u_events angles qubits)
-u-few [] qubits = omega arith
-u-few (theta ∷ []) qubits = omega arith
-u-few (theta ∷ phi ∷ []) qubits = omega arith
-u-few (theta ∷ phi ∷ lambda ∷ []) [] = omega arith
 u-few (theta ∷ phi ∷ lambda ∷ []) (q ∷ []) = u_of-few q (phase_of_angle theta) (phase_of_angle phi) (phase_of_angle lambda)
-u-few (theta ∷ phi ∷ lambda ∷ []) (q ∷ r ∷ qubits) = omega arith
-u-few (theta ∷ phi ∷ lambda ∷ more ∷ angles) qubits = omega arith
+u-few _ _ = omega arith
 
 cx-few : (qubits : List ℕ) → AreFew 1 (cx_events qubits)
-cx-few [] = omega arith
-cx-few (q ∷ []) = omega arith
 cx-few (control ∷ target ∷ []) = omega arith
-cx-few (q ∷ r ∷ s ∷ qubits) = omega arith
+cx-few _ = omega arith
 
 -- each gate of the scope
 abbrev GatesAreFew : Scope → Type 0
@@ -81,9 +72,8 @@ meaning-few : (b : Bool) (scope : Scope) (m : Meaning) (name : List ℕ) (depth 
     → AreFew 0 (if b then expand_meaning (λ n d a q. expand_declared scope n d a q) m depth angles qubits else expand_declared scope name depth angles qubits)
 meaning-few true scope (Gate form) name depth angles qubits gates =
     few-flat_map (body_call (λ n d a q. expand_declared scope n d a q) form depth angles qubits) form.body (sentence-few scope form depth angles qubits gates)
-meaning-few true scope (Qubits first size) name depth angles qubits gates = omega arith
-meaning-few true scope (Bits first size) name depth angles qubits gates = omega arith
 meaning-few false scope m name depth angles qubits gates = gates name depth angles qubits
+meaning-few true scope _ name depth angles qubits gates = omega arith
 
 gates-few : (scope : Scope) → GatesAreFew scope
 gates-few [] name depth angles qubits = omega arith
@@ -92,26 +82,16 @@ gates-few (d ∷ scope) name depth angles qubits =
 
 -- ---- statements
 statement-few : (scope : Scope) (sentence : Sentence) → AreFew 0 (events_of scope sentence)
-statement-few scope (Version real) = omega arith
-statement-few scope (Include text) = omega arith
-statement-few scope (QubitRegister name size) = omega arith
-statement-few scope (BitRegister name size) = omega arith
-statement-few scope (DeclareGate form) = omega arith
-statement-few scope (Opaque name parameters qubits) = omega arith
-statement-few scope (If register value action) = omega arith
-statement-few scope (Barrier operands) = omega arith
 statement-few scope (Act (Applied a)) =
     few-flat_map (λ qubits. call (expand_declared scope) a.gate 1 (angles_of [] [] a.angles) qubits) (instances (ranges_of (lookup_in scope) a.qubits))
     (λ qubits. call-few scope a.gate 1 (angles_of [] [] a.angles) qubits (gates-few scope))
-statement-few scope (Act (Measured from to)) = omega arith
-statement-few scope (Act (Reset operand)) = omega arith
+statement-few scope _ = omega arith
 
 -- where nothing is wrong, calls were few
 called-at : (many deep : Bool) (rest : Option Cause) → (if many then Some cause.TooManyGates else (if deep then Some cause.TooDeep else rest)) ≡ None
     → (many ≡ false) × (rest ≡ None)
-called-at true deep rest h = absurd (cc)
-called-at false true rest h = absurd (cc)
 called-at false false rest h = (refl, h)
+called-at _ _ rest h = absurd (cc)
 
 calls-few : (most calls : ℕ) (events : List Event) → calls ≤ most → first_wrong most calls events ≡ None → calls + call_count events ≤ most
 calls-few most calls [] few h = omega arith

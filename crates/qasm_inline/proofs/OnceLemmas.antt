@@ -4,7 +4,7 @@ use Rattle.std.proofs.lemmas.List.{map-append}
 use Rattle.zx_gates.specs.declared.elementary.Measure.{Measure}
 use Rattle.zx_gates.specs.Elementary.{AreOnce}
 use Rattle.zx_model.specs.Bits.{member}
-use Rattle.qasm_reader.specs.Syntax.{Applied, Measured, Reset, Sentence, Version, Include, QubitRegister, BitRegister, DeclareGate, Opaque, If, Barrier, Act, Placed}
+use Rattle.qasm_reader.specs.Syntax.{Measured, Sentence, Act, Placed}
 use Rattle.qasm_scope.specs.Applications.{Range, range_of}
 use Rattle.qasm_scope.specs.Calls.{call_count}
 use Rattle.qasm_scope.specs.Faults.{tests_behind, wrong_behind, wrong_in}
@@ -34,19 +34,10 @@ measured-once from to measured like qubits bits h = (
 
 statement-once : (scope : Scope) (measured : List Measure) (sentence : Sentence) → wrong_in scope sentence ≡ None → wrong_behind scope measured sentence ≡ None
     → Distinct measured → Distinct (measured ++ measured_by scope sentence)
-statement-once scope measured (Version real) right behind h = subst Distinct (sym (append-nil measured)) h
-statement-once scope measured (Include text) right behind h = subst Distinct (sym (append-nil measured)) h
-statement-once scope measured (QubitRegister name size) right behind h = subst Distinct (sym (append-nil measured)) h
-statement-once scope measured (BitRegister name size) right behind h = subst Distinct (sym (append-nil measured)) h
-statement-once scope measured (DeclareGate form) right behind h = subst Distinct (sym (append-nil measured)) h
-statement-once scope measured (Opaque name parameters qubits) right behind h = subst Distinct (sym (append-nil measured)) h
-statement-once scope measured (If register value action) right behind h = subst Distinct (sym (append-nil measured)) h
-statement-once scope measured (Barrier operands) right behind h = subst Distinct (sym (append-nil measured)) h
-statement-once scope measured (Act (Applied a)) right behind h = subst Distinct (sym (append-nil measured)) h
-statement-once scope measured (Act (Reset operand)) right behind h = subst Distinct (sym (append-nil measured)) h
 statement-once scope measured (Act (Measured from to)) right behind h =
     let tests = no_cause (tests_behind scope measured (Act (Measured from to))) behind in
     measured-once (range_of (lookup_in scope) from) (bit_range_of (lookup_in scope) to) measured (passes scope (Act (Measured from to)) right).1.1.0 tests.0 tests.1.0 h
+statement-once scope measured _ right behind h = subst Distinct (sym (append-nil measured)) h
 
 once-after : (most : ℕ) (scope : Scope) (measured : List Measure) (calls : ℕ) (statements : List Placed) → fault_after most scope measured calls statements ≡ None
     → Distinct measured → Distinct (measured ++ measures_after scope statements)

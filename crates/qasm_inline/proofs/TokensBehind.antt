@@ -1,5 +1,5 @@
 -- What stands behind the tokens that were taken.
-use Rattle.std.proofs.Common.{◌≡◌, ℕ, zero, suc, ◌-◌, List, [], ◌∷◌, ◌++◌, length, length-append, map, drop, refl, ap, ◌∙◌, arith}
+use Rattle.std.proofs.Common.{◌≡◌, ℕ, suc, ◌-◌, List, [], ◌∷◌, ◌++◌, length, length-append, map, drop, refl, ap, ◌∙◌, arith}
 use Rattle.std.proofs.lemmas.List.{length-map}
 use Rattle.qasm_lexer.specs.declared.token.Token.{Token}
 use Rattle.qasm_lexer.specs.Tokens.{Lexeme, lexeme, lexemes}
@@ -10,9 +10,8 @@ drop_behind [] ys = refl
 drop_behind (x ∷ xs) ys = drop_behind xs ys
 
 pub map_drop : {A B : Type 0} (f : A → B) (n : ℕ) (xs : List A) → map f (drop n xs) ≡ drop n (map f xs)
-map_drop f zero xs = refl
-map_drop f (suc n) [] = refl
 map_drop f (suc n) (x ∷ xs) = map_drop f n xs
+map_drop f _ _ = refl
 
 pub behind_front : (tokens rest : List Token) (front : List Lexeme) → lexemes tokens ≡ front ++ lexemes rest
     → lexemes (drop (length tokens - length rest) tokens) ≡ lexemes rest

@@ -10,7 +10,7 @@ use qasm_lexer::Token;
 use std::alloc::{AllocError, Global};
 
 // How many texts are known at once.
-const ROWS: usize = 4096;
+const ROWS: usize = 512;
 
 // The printable characters of ASCII, in the order of their codes, of which the first is 32.
 const PRINTABLE: &[u8] =

@@ -6,6 +6,7 @@ use Rattle.std.specs.List.{list_all, concat}
 use Rattle.std.proofs.lemmas.Bool.{false≢true, and_parts, and_from, le-leb, ne_eqb, not-true, not_from_false, cases_eq}
 use Rattle.qasm_lexer.proofs.Runs.{begins_append}
 use Rattle.std.proofs.lemmas.Fmt.{decimal_by_steps}
+use Rattle.std.proofs.lemmas.List.Folds.{list_all-append}
 use Rattle.qasm_lexer.specs.declared.token.TokenKind.{TokenKind}
 use Rattle.qasm_lexer.specs.declared.token.TokenKind.TheVariants.{Natural}
 use Rattle.std.specs.Char.{is_ascii_digit, is_ascii_alphabetic}
@@ -92,12 +93,6 @@ record IsDecimal (n : ℕ) (ds : List ℕ) : Type 0 where
 digit_glyph : (d : ℕ) → d < 10 → is_ascii_digit (48 + d) ≡ true
 digit_glyph d h = and_from (leb 48 (48 + d)) (leb (48 + d) 57) (le-leb 48 (48 + d) (omega arith)) (le-leb (48 + d) 57 (omega arith))
 
-all_append : (test : ℕ → Bool) (xs ys : List ℕ) → list_all test xs ≡ true → list_all test ys ≡ true → list_all test (xs ++ ys) ≡ true
-all_append test [] ys e f = f
-all_append test (b ∷ xs) ys e f =
-    let p : (test b ≡ true) × (list_all test xs ≡ true) = and_parts (test b) (list_all test xs) e in
-    and_from (test b) (list_all test (xs ++ ys)) p.0 (all_append test xs ys p.1 f)
-
 decimal_is : (n : ℕ) → n < 2 ^ 64 → IsDecimal n (decimal n)
 decimal_is n small = decimal_by_steps IsDecimal one more n small where
   one : (n : ℕ) → n < 10 → IsDecimal n ((48 + n) ∷ [])
@@ -109,7 +104,7 @@ decimal_is n small = decimal_by_steps IsDecimal one more n small where
 
   more : (n : ℕ) (ds : List ℕ) → 10 ≤ n → IsDecimal (n / 10) ds → IsDecimal n (ds ++ ((48 + n % 10) ∷ []))
   more n ds h d = record {
-    digits = all_append is_ascii_digit ds ((48 + n % 10) ∷ []) d.digits (and_from (is_ascii_digit (48 + n % 10)) true (digit_glyph (n % 10) (omega arith)) refl);
+    digits = list_all-append is_ascii_digit ds ((48 + n % 10) ∷ []) ∙ and_from _ _ d.digits (and_from (is_ascii_digit (48 + n % 10)) true (digit_glyph (n % 10) (omega arith)) refl);
     some = λ k. begins_append is_nonzero ds ((48 + n % 10) ∷ []) (d.some (omega arith));
     none = λ z. absurd (omega arith);
   }

@@ -4,6 +4,7 @@ use Rattle.std.specs.List.{concat}
 use Rattle.std.specs.Option.{option_map, option_to_list}
 use Rattle.std.proofs.lemmas.Bool.{false≢true}
 use Rattle.std.proofs.lemmas.List.{drop_at, take_at, nil_from_length}
+use Rattle.std.proofs.lemmas.List.Folds.{concat-append}
 use Rattle.qasm_lexer.specs.declared.token.TokenKind.{TokenKind}
 use Rattle.qasm_lexer.specs.Tokens.{is_form, token_kind, IsPiece, ArePieces, Lexeme, tokens_in, IsCutUpTo, IsCut, HasNoPiece, IsBadByte, AreInPlace}
 use Rattle.qasm_lexer.proofs.Leads.{IsLongest, piece_form}
@@ -15,13 +16,12 @@ form_some (b ∷ rest) e = omega arith
 -- prefixes as long as each other, and what follows them
 pub same_prefix : (a b x y : List ℕ) → a ++ x ≡ b ++ y → length a ≡ length b → (a ≡ b) × (x ≡ y)
 same_prefix [] [] x y e h = (refl, e)
-same_prefix [] (c ∷ b) x y e h = absurd (omega arith)
-same_prefix (c ∷ a) [] x y e h = absurd (omega arith)
 same_prefix (c ∷ a) (d ∷ b) x y e h =
     let k : c ≡ d = cc in
     let t : a ++ x ≡ b ++ y = cc in
     let r : (a ≡ b) × (x ≡ y) = same_prefix a b x y t (omega arith) in
     (cc, r.1)
+same_prefix _ _ x y e h = absurd (omega arith)
 
 -- the longest form at a place is one
 pub same_longest : (a b x y : List ℕ) → a ++ x ≡ b ++ y → is_form a ≡ true → is_form b ≡ true
@@ -66,10 +66,6 @@ same_byte text this that a b =
     let r : drop this text ≡ drop that text =
     (one_cut_up_to 0 text (drop this text) (drop that text) a.0 b.0 a.1 b.1 a.2.1 b.2.1).1 in
     omega (arith, ap length r, length-drop this text, length-drop that text, a.2.0, b.2.0)
-
-pub concat-append : (ps qs : List (List ℕ)) → concat (ps ++ qs) ≡ concat ps ++ concat qs
-concat-append [] qs = refl
-concat-append (p ∷ ps) qs = ap (λ r. p ++ r) (concat-append ps qs) ∙ sym (append_assoc p (concat ps) (concat qs))
 
 -- pieces after pieces
 pub ArePieces-append : (ps qs : List (List ℕ)) (rest : List ℕ) → ArePieces ps (concat qs ++ rest) → ArePieces qs rest → ArePieces (ps ++ qs) rest

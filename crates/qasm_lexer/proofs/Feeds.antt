@@ -6,7 +6,7 @@ use Rattle.std.proofs.lemmas.List.{append-nil}
 use Rattle.std.specs.Char.{is_ascii_digit, is_ascii_alphabetic}
 use Rattle.qasm_lexer.specs.Forms.{following, begins, is_word_byte, is_no_feed, is_mark, is_sign_byte, after_sign, are_digits, is_exponent, is_fraction, is_closed, is_comment, is_empty}
 use Rattle.qasm_lexer.specs.Tokens.{signs, is_form, ArePieces, Lexeme, IsCut, IsCutUpTo}
-use Rattle.qasm_lexer.proofs.Leads.{white, point, quote, lead, letter_range, digit_range, as_white, as_comment, as_word, as_real, as_point, as_natural, as_text, as_sign, seen, table_all, IsLongest, piece_form}
+use Rattle.qasm_lexer.proofs.Leads.{white, point, quote, lead, letter_range, digit_range, seen, table_all, IsLongest, piece_form, letter, digit, other, Lead, SeenAt}
 use Rattle.qasm_lexer.proofs.Cuts.{IsCutUpTo-then, form_some}
 
 no_feed_at : (b : ℕ) → (b ≡ 10 → ⊥) → is_no_feed b ≡ true
@@ -96,16 +96,16 @@ point_lead : (c : ℕ) → lead c ≡ point → is_no_feed c ≡ true
 point_lead c l = no_feed_at c (λ z. let k : white ≡ point = sym (ap lead z) ∙ l in cc)
 
 pub form_no_feed : (c : ℕ) (o : List ℕ) → is_form (c ∷ o) ≡ true → (o ≡ []) ⊎ (list_all is_no_feed (c ∷ o) ≡ true)
-form_no_feed c o e = elim (seen c o e) [
-  | as_white l n ↦ inl n
-  | as_comment l h ↦ inr (comment_no_feed c o h)
-  | as_word l h ↦ inr (all_by is_word_byte is_no_feed word_no_feed (c ∷ o) h)
-  | as_real l h ↦ inr (after_no_feed (c ∷ o) (fraction_no_feed (begins is_ascii_digit (c ∷ o)) (following is_ascii_digit (c ∷ o)) h))
-  | as_point l h i ↦ inr (and_from (is_no_feed c) (list_all is_no_feed o) (point_lead c l) (after_no_feed o (exponent_no_feed (following is_ascii_digit o) i)))
-  | as_natural l h i ↦ inr (all_by is_ascii_digit is_no_feed digit_no_feed (c ∷ o) h)
-  | as_text l h ↦ inr (and_from (is_no_feed c) (list_all is_no_feed o) (quote_lead c l) (closed_no_feed o h))
-  | as_sign l n h ↦ inr (table_all (list_all is_no_feed) signs refl (c ∷ o) h)
-]
+form_no_feed c o e = by (lead c) refl (seen c o e) where
+  by : (l : Lead) → lead c ≡ l → SeenAt l c o → (o ≡ []) ⊎ (list_all is_no_feed (c ∷ o) ≡ true)
+  by white l s = inl s
+  by letter l s = inr (all_by is_word_byte is_no_feed word_no_feed (c ∷ o) s)
+  by digit l (inl h) = inr (after_no_feed (c ∷ o) (fraction_no_feed (begins is_ascii_digit (c ∷ o)) (following is_ascii_digit (c ∷ o)) h))
+  by digit l (inr h) = inr (all_by is_ascii_digit is_no_feed digit_no_feed (c ∷ o) h.0)
+  by point l s = inr (and_from (is_no_feed c) (list_all is_no_feed o) (point_lead c l) (after_no_feed o (exponent_no_feed (following is_ascii_digit o) s.1)))
+  by quote l s = inr (and_from (is_no_feed c) (list_all is_no_feed o) (quote_lead c l) (closed_no_feed o s))
+  by other l (inl h) = inr (comment_no_feed c o h)
+  by other l (inr h) = inr (table_all (list_all is_no_feed) signs refl (c ∷ o) h.1)
 
 -- where a feed stands in a form, it is the whole form
 pub feed_alone : (y z : List ℕ) → is_form (y ++ 10 ∷ z) ≡ true → z ≡ []
@@ -133,11 +133,11 @@ prefixes (c ∷ a) (d ∷ b) x y e =
 -- what is longest before a line feed stays so, whatever follows that
 pub longest_on : (form x y after : List ℕ) → form ++ x ≡ y ++ 10 ∷ [] → IsLongest form x → IsLongest form (x ++ after)
 longest_on form x y after e l = each where
-  each : (other rest : List ℕ) → other ++ rest ≡ form ++ (x ++ after) → is_form other ≡ true → length other ≤ length form
-  each other rest t f = elim (prefixes other (form ++ x) rest after (t ∙ sym (append_assoc form x after))) [
-    | inl h ↦ l other h.0 h.1 f
+  each : (longer rest : List ℕ) → longer ++ rest ≡ form ++ (x ++ after) → is_form longer ≡ true → length longer ≤ length form
+  each longer rest t f = elim (prefixes longer (form ++ x) rest after (t ∙ sym (append_assoc form x after))) [
+    | inl h ↦ l longer h.0 h.1 f
     | inr h ↦
-        (let all : y ++ 10 ∷ h.0 ≡ other = sym (append_assoc y (10 ∷ []) h.0) ∙ ap (λ r. r ++ h.0) (sym e) ∙ h.1 in
+        (let all : y ++ 10 ∷ h.0 ≡ longer = sym (append_assoc y (10 ∷ []) h.0) ∙ ap (λ r. r ++ h.0) (sym e) ∙ h.1 in
         let none : h.0 ≡ [] = feed_alone y h.0 (subst (λ r. is_form r ≡ true) (sym all) f) in
         absurd (omega (arith, ap length none, h.2)))
   ]

@@ -14,7 +14,7 @@ use Rattle.qasm_lexer.specs.Tokens.{signs, kind_in, token_kind, word_kind, is_bl
 use Rattle.qasm_lexer.specs.Internal.FirstPiece.{first_piece, word_piece, as_token, number_piece, number, point_piece, text_piece, closing, is_plain, plain_piece, sign_piece, two_or_one, is_inside, fraction_len, naturals, natural_tokens, piece_tokens}
 use Rattle.qasm_lexer.proofs.Runs.{prefix, prefix-following, prefix_len-prefix, take-prefix, drop-following, prefix_passes, after_stops, after_through, begins_some, begins_append}
 use Rattle.qasm_lexer.proofs.Reals.{real_fits, fraction_fits}
-use Rattle.qasm_lexer.proofs.Leads.{letter, other, lead, lead-letter, no_blank, kind-word, Seen, seen, point_only, quote_only, other_only, word_form, IsLongest, piece_form}
+use Rattle.qasm_lexer.proofs.Leads.{letter, other, lead, lead-letter, no_blank, kind-word, Seen, seen, word_form, IsLongest, piece_form, point, quote, only}
 use Rattle.qasm_lexer.proofs.Cuts.{same_longest, IsEnd, form_some}
 use Rattle.qasm_lexer.proofs.Pieces as pieces
 use Rattle.qasm_lexer.proofs.Pieces.{ends_number}
@@ -174,7 +174,7 @@ point_first r = elim (cases_Bool (begins is_ascii_digit r)) [
       (ap (λ x. 46 ∷ x) (take-append-drop (fraction_len r) r)) (omega (arith, length-take-le (fraction_len r) r (fraction_fits r))) Real (pieces.point_piece r e))
   | inr e ↦
       rw e (end_by 46 r (λ o rest t s.
-      both_ways (begins is_ascii_digit r) e (ap (begins is_ascii_digit) (sym t) ∙ begins_append is_ascii_digit o rest (point_only 46 o refl s).0)))
+      both_ways (begins is_ascii_digit r) e (ap (begins is_ascii_digit) (sym t) ∙ begins_append is_ascii_digit o rest (only 46 o point refl s).0)))
 ]
 
 -- what follows the bytes inside a text that is closed
@@ -184,10 +184,10 @@ closed_after r o rest t c =
     ap (following is_inside) (sym t ∙ ap (λ x. x ++ rest) h.1 ∙ append_assoc h.0 (34 ∷ []) rest) ∙ after_through is_inside h.0 (34 ∷ rest) h.2
 
 text_by_rest : (r x : List ℕ) → following is_inside r ≡ x → IsFirstPiece (34 ∷ r) (closing (prefix_len is_inside r) x)
-text_by_rest r [] is = end_by 34 r (λ o rest t s. let e : [] ≡ 34 ∷ rest = sym is ∙ closed_after r o rest t (quote_only 34 o refl s) in cc)
+text_by_rest r [] is = end_by 34 r (λ o rest t s. let e : [] ≡ 34 ∷ rest = sym is ∙ closed_after r o rest t (only 34 o quote refl s) in cc)
 text_by_rest r (c ∷ after) is = elim (cases_Bool (eqb c 34)) [
   | inl e ↦ rw e (closed_here (is ∙ ap (λ x. x ∷ after) (eqb-true c 34 e)))
-  | inr e ↦ rw e (end_by 34 r (λ o rest t s. open_here e o rest (closed_after r o rest t (quote_only 34 o refl s))))
+  | inr e ↦ rw e (end_by 34 r (λ o rest t s. open_here e o rest (closed_after r o rest t (only 34 o quote refl s))))
 ] where
   open_here : eqb c 34 ≡ false → (o rest : List ℕ) → following is_inside r ≡ 34 ∷ rest → ⊥
   open_here e o rest h =
@@ -207,7 +207,7 @@ text_first r =
     subst (λ x. IsFirstPiece (34 ∷ r) (closing (prefix_len is_inside r) x)) (sym (drop-following is_inside r)) (text_by_rest r (following is_inside r) refl)
 
 sign_end : (b : ℕ) (t : List ℕ) → lead b ≡ other → kind_in signs (b ∷ []) ≡ None → pieces.ends_sign b t ≡ true → IsEnd (b ∷ t)
-sign_end b t l none ends = end_by b t (λ o rest e s. nothing o (pieces.longer_sign b o rest t e ends (other_only b o l s)) (other_only b o l s)) where
+sign_end b t l none ends = end_by b t (λ o rest e s. nothing o (pieces.longer_sign b o rest t e ends (only b o other l s)) (only b o other l s)) where
   nothing : (o : List ℕ) → o ≡ [] → (is_comment (b ∷ o) ≡ true) ⊎ ((length o ≤ 1) × (is_some (kind_in signs (b ∷ o)) ≡ true)) → ⊥
   nothing [] z (inl c) = false≢true c
   nothing [] z (inr s) = false≢true (ap is_some (sym none) ∙ s.1)

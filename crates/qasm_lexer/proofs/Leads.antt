@@ -1,9 +1,9 @@
 -- A form is known by its first byte.
-use Rattle.std.proofs.Common.{◌≡◌, ℕ, ◌≤◌, ◌++◌, Bool, true, false, cond, ◌&&◌, ◌||◌, eqb, leb, List, [], ◌∷◌, length, refl, ap, ◌∙◌, arith, inl, inr, ◌⊎◌, Option, None, Some}
+use Rattle.std.proofs.Common.{◌≡◌, ℕ, ◌≤◌, ◌++◌, Bool, true, false, cond, ◌&&◌, ◌||◌, eqb, leb, List, [], ◌∷◌, length, refl, sym, ap, ◌∙◌, subst, arith, inl, inr, ◌⊎◌, Option, None, Some}
 use Rattle.std.specs.Option.{is_some}
 use Rattle.std.specs.List.{list_all}
 use Rattle.std.specs.Str.{bytes_eq}
-use Rattle.std.proofs.lemmas.Bool.{false≢true, and_parts, and_from, or_cases, or_left, or_right, cases_Bool, eqb-true, leb-true, false_from_ne_true}
+use Rattle.std.proofs.lemmas.Bool.{false≢true, and_parts, and_from, or_cases, or_left, cases_Bool, eqb-true, leb-true, false_from_ne_true}
 use Rattle.std.proofs.lemmas.Slice.Eq.{bytes_eq-Decides}
 use Rattle.qasm_lexer.specs.declared.token.TokenKind.{TokenKind}
 use Rattle.std.specs.Char.{is_ascii_digit, is_ascii_alphabetic}
@@ -82,12 +82,8 @@ is_other other = true
 is_other l = false
 
 is_other_true : (l : Lead) → is_other l ≡ true → l ≡ other
-is_other_true white e = absurd (false≢true e)
-is_other_true letter e = absurd (false≢true e)
-is_other_true digit e = absurd (false≢true e)
-is_other_true point e = absurd (false≢true e)
-is_other_true quote e = absurd (false≢true e)
 is_other_true other e = refl
+is_other_true _ e = absurd (false≢true e)
 
 -- one or two bytes, of which the first begins nothing but a sign or a comment
 abbrev pub is_short : List ℕ → Bool
@@ -108,63 +104,71 @@ empty_nil : (o : List ℕ) → is_empty o ≡ true → o ≡ []
 empty_nil [] e = refl
 empty_nil (c ∷ o) e = absurd (false≢true e)
 
--- a form by what its first byte begins
-pub data Seen (c : ℕ) (o : List ℕ) : Type 0 where
-  as_white : lead c ≡ white → o ≡ [] → Seen c o
-  as_comment : lead c ≡ other → is_comment (c ∷ o) ≡ true → Seen c o
-  as_word : lead c ≡ letter → list_all is_word_byte (c ∷ o) ≡ true → Seen c o
-  as_real : lead c ≡ digit → is_fraction (begins is_ascii_digit (c ∷ o)) (following is_ascii_digit (c ∷ o)) ≡ true → Seen c o
-  as_point : lead c ≡ point → begins is_ascii_digit o ≡ true → is_exponent (following is_ascii_digit o) ≡ true → Seen c o
-  as_natural : lead c ≡ digit → list_all is_ascii_digit (c ∷ o) ≡ true → is_natural (c ∷ o) ≡ true → Seen c o
-  as_text : lead c ≡ quote → is_closed o ≡ true → Seen c o
-  as_sign : lead c ≡ other → length o ≤ 1 → is_some (kind_in signs (c ∷ o)) ≡ true → Seen c o
+-- what a form is beside its first byte, by what that byte begins
+abbrev pub SeenAt : Lead → ℕ → List ℕ → Type 0
+SeenAt white c o = o ≡ []
+SeenAt letter c o = list_all is_word_byte (c ∷ o) ≡ true
+SeenAt digit c o =
+    (is_fraction (begins is_ascii_digit (c ∷ o)) (following is_ascii_digit (c ∷ o)) ≡ true) ⊎ ((list_all is_ascii_digit (c ∷ o) ≡ true) × (is_natural (c ∷ o) ≡ true))
+SeenAt point c o = (begins is_ascii_digit o ≡ true) × (is_exponent (following is_ascii_digit o) ≡ true)
+SeenAt quote c o = is_closed o ≡ true
+SeenAt other c o = (is_comment (c ∷ o) ≡ true) ⊎ ((length o ≤ 1) × (is_some (kind_in signs (c ∷ o)) ≡ true))
+
+abbrev pub Seen : ℕ → List ℕ → Type 0
+Seen c o = SeenAt (lead c) c o
+
+pub only : (c : ℕ) (o : List ℕ) (l : Lead) → lead c ≡ l → Seen c o → SeenAt l c o
+only c o l is s = subst (λ k. SeenAt k c o) is s
+
+see : (c : ℕ) (o : List ℕ) (l : Lead) → lead c ≡ l → SeenAt l c o → Seen c o
+see c o l is s = subst (λ k. SeenAt k c o) (sym is) s
 
 see_white : (c : ℕ) (o : List ℕ) → is_white (c ∷ o) ≡ true → Seen c o
 see_white c o e =
     let p : (is_space c ≡ true) × (is_empty o ≡ true) = and_parts (is_space c) (is_empty o) e in
-    as_white (lead-space c p.0) (empty_nil o p.1)
+    see c o white (lead-space c p.0) (empty_nil o p.1)
 
 see_comment : (c : ℕ) (o : List ℕ) → is_comment (c ∷ o) ≡ true → Seen c o
 see_comment c [] e = absurd (false≢true e)
 see_comment c (d ∷ o) e =
     let p : ((eqb c 47 && eqb d 47) ≡ true) × (list_all is_no_feed o ≡ true) = and_parts (eqb c 47 && eqb d 47) (list_all is_no_feed o) e in
     let q : (eqb c 47 ≡ true) × (eqb d 47 ≡ true) = and_parts (eqb c 47) (eqb d 47) p.0 in
-    as_comment (lead-at c 47 other q.0 refl) e
+    see c (d ∷ o) other (lead-at c 47 other q.0 refl) (inl e)
 
 see_word : (c : ℕ) (o : List ℕ) → is_word (c ∷ o) ≡ true → Seen c o
 see_word c o e =
     let p : (is_ascii_alphabetic c ≡ true) × (list_all is_word_byte o ≡ true) = and_parts (is_ascii_alphabetic c) (list_all is_word_byte o) e in
-    as_word (lead-letter c p.0)
+    see c o letter (lead-letter c p.0)
     (and_from (is_word_byte c) (list_all is_word_byte o) (or_left (is_ascii_alphabetic c || is_ascii_digit c) (eqb c 95) (or_left (is_ascii_alphabetic c) (is_ascii_digit c) p.0)) p.1)
 
 see_real : (c : ℕ) (o : List ℕ) → is_real (c ∷ o) ≡ true → Seen c o
 see_real c o e = elim (cases_Bool (is_ascii_digit c)) [
-  | inl d ↦ as_real (lead-digit c d) e
+  | inl d ↦ see c o digit (lead-digit c d) (inl e)
   | inr d ↦
       (let i : is_fraction false (c ∷ o) ≡ true = rw d at e in
       let p : ((eqb c 46 && begins is_ascii_digit o) ≡ true) × (is_exponent (following is_ascii_digit o) ≡ true) =
       and_parts (eqb c 46 && begins is_ascii_digit o) (is_exponent (following is_ascii_digit o)) i in
       let q : (eqb c 46 ≡ true) × (begins is_ascii_digit o ≡ true) = and_parts (eqb c 46) (begins is_ascii_digit o) p.0 in
-      as_point (lead-at c 46 point q.0 refl) q.1 p.1)
+      see c o point (lead-at c 46 point q.0 refl) (q.1, p.1))
 ]
 
 see_natural : (c : ℕ) (o : List ℕ) → is_natural (c ∷ o) ≡ true → Seen c o
 see_natural c o e = elim (cases_Bool (eqb c 48)) [
   | inl z ↦
       (let n : o ≡ [] = empty_nil o (rw z at e) in
-      as_natural (lead-at c 48 digit z refl) (rw (eqb-true c 48 z) (rw n refl)) e)
+      see c o digit (lead-at c 48 digit z refl) (inr (rw (eqb-true c 48 z) (rw n refl), e)))
   | inr z ↦
       (let i : (is_ascii_digit c && list_all is_ascii_digit o) ≡ true = rw z at e in
-      as_natural (lead-digit c (and_parts (is_ascii_digit c) (list_all is_ascii_digit o) i).0) i e)
+      see c o digit (lead-digit c (and_parts (is_ascii_digit c) (list_all is_ascii_digit o) i).0) (inr (i, e)))
 ]
 
 see_text : (c : ℕ) (o : List ℕ) → is_text (c ∷ o) ≡ true → Seen c o
 see_text c o e =
     let p : (eqb c 34 ≡ true) × (is_closed o ≡ true) = and_parts (eqb c 34) (is_closed o) e in
-    as_text (lead-at c 34 quote p.0 refl) p.1
+    see c o quote (lead-at c 34 quote p.0 refl) p.1
 
 see_sign : (c : ℕ) (o : List ℕ) → is_some (kind_in signs (c ∷ o)) ≡ true → Seen c o
-see_sign c o e = let p : (lead c ≡ other) × (length o ≤ 1) = sign_lead c o e in as_sign p.0 p.1 e
+see_sign c o e = let p : (lead c ≡ other) × (length o ≤ 1) = sign_lead c o e in see c o other p.0 (inr (p.1, e))
 
 -- the six tests of `is_form`
 six : (a b c d e f : Bool) (P : Type 0) → (a || b || c || d || e || f) ≡ true → (a ≡ true → P) → (b ≡ true → P) → (c ≡ true → P)
@@ -182,44 +186,13 @@ seen c o e =
     (λ h. elim (or_cases (is_white (c ∷ o)) (is_comment (c ∷ o)) h) [ inl w ↦ see_white c o w | inr w ↦ see_comment c o w ])
     (see_word c o) (see_real c o) (see_natural c o) (see_text c o) (see_sign c o)
 
--- what a form of each kind is
-six-1 : (a b c d e f : Bool) → a ≡ true → (a || b || c || d || e || f) ≡ true
-six-1 a b c d e f h = rw h refl
+-- a word is a form
+second : (a b c d e f : Bool) → b ≡ true → (a || b || c || d || e || f) ≡ true
+second true b c d e f h = refl
+second false b c d e f h = rw h refl
 
-six-2 : (a b c d e f : Bool) → b ≡ true → (a || b || c || d || e || f) ≡ true
-six-2 true b c d e f h = refl
-six-2 false b c d e f h = rw h refl
-
-six-3 : (a b c d e f : Bool) → c ≡ true → (a || b || c || d || e || f) ≡ true
-six-3 a b c d e f h = or_left _ _ (or_left _ _ (or_left _ _ (or_right (a || b) c h)))
-
-six-4 : (a b c d e f : Bool) → d ≡ true → (a || b || c || d || e || f) ≡ true
-six-4 a b c d e f h = or_left _ _ (or_left _ _ (or_right (a || b || c) d h))
-
-six-5 : (a b c d e f : Bool) → e ≡ true → (a || b || c || d || e || f) ≡ true
-six-5 a b c d e f h = or_left _ _ (or_right (a || b || c || d) e h)
-
-six-6 : (a b c d e f : Bool) → f ≡ true → (a || b || c || d || e || f) ≡ true
-six-6 a b c d e f h = or_right (a || b || c || d || e) f h
-
-module _ (form : List ℕ) where
-  pub blank_form : is_blank form ≡ true → is_form form ≡ true
-  blank_form = six-1 (is_blank form) (is_word form) (is_real form) (is_natural form) (is_text form) (is_some (kind_in signs form))
-
-  pub word_form : is_word form ≡ true → is_form form ≡ true
-  word_form = six-2 (is_blank form) (is_word form) (is_real form) (is_natural form) (is_text form) (is_some (kind_in signs form))
-
-  pub real_form : is_real form ≡ true → is_form form ≡ true
-  real_form = six-3 (is_blank form) (is_word form) (is_real form) (is_natural form) (is_text form) (is_some (kind_in signs form))
-
-  pub natural_form : is_natural form ≡ true → is_form form ≡ true
-  natural_form = six-4 (is_blank form) (is_word form) (is_real form) (is_natural form) (is_text form) (is_some (kind_in signs form))
-
-  pub text_form : is_text form ≡ true → is_form form ≡ true
-  text_form = six-5 (is_blank form) (is_word form) (is_real form) (is_natural form) (is_text form) (is_some (kind_in signs form))
-
-  pub sign_form : is_some (kind_in signs form) ≡ true → is_form form ≡ true
-  sign_form = six-6 (is_blank form) (is_word form) (is_real form) (is_natural form) (is_text form) (is_some (kind_in signs form))
+pub word_form : (form : List ℕ) → is_word form ≡ true → is_form form ≡ true
+word_form form = second (is_blank form) (is_word form) (is_real form) (is_natural form) (is_text form) (is_some (kind_in signs form))
 
 -- no form is longer than this one where it stands, before what follows it
 abbrev pub IsLongest : List ℕ → List ℕ → Type 0
@@ -230,12 +203,8 @@ IsLongest form after =
 some_form : (blank word real natural text : Bool) (of_word of_sign : Option TokenKind)
     → (blank || is_some (cond word of_word (cond real (Some Real) (cond natural (Some Natural) (cond text (Some Text) of_sign))))) ≡ true
     → (blank || word || real || natural || text || is_some of_sign) ≡ true
-some_form true word real natural text of_word of_sign e = refl
-some_form false true real natural text of_word of_sign e = refl
-some_form false false true natural text of_word of_sign e = refl
-some_form false false false true text of_word of_sign e = refl
-some_form false false false false true of_word of_sign e = refl
 some_form false false false false false of_word of_sign e = e
+some_form _ _ _ _ _ of_word of_sign e = refl
 
 pub piece_form : (form after : List ℕ) → IsPiece form after → is_form form ≡ true
 piece_form form after p =
@@ -263,84 +232,9 @@ natural_lead c o e = elim (cases_Bool (eqb c 48)) [
   | inr z ↦ (let i : (is_ascii_digit c && list_all is_ascii_digit o) ≡ true = rw z at e in lead-digit c (and_parts (is_ascii_digit c) (list_all is_ascii_digit o) i).0)
 ]
 
-none_since : {T : Type 0} (o : Option T) → (is_some o ≡ true → ⊥) → o ≡ None
+pub none_since : {T : Type 0} (o : Option T) → (is_some o ≡ true → ⊥) → o ≡ None
 none_since None n = refl
 none_since (Some x) n = absurd (n refl)
-
--- what a form is whose first byte begins one thing alone
-module _ (c : ℕ) (o : List ℕ) where
-  pub white_only : lead c ≡ white → Seen c o → o ≡ []
-  white_only is s = elim s [
-    | as_white l n ↦ n
-    | as_comment l h ↦ cc
-    | as_word l h ↦ cc
-    | as_real l h ↦ cc
-    | as_point l h i ↦ cc
-    | as_natural l h i ↦ cc
-    | as_text l h ↦ cc
-    | as_sign l h i ↦ cc
-  ]
-
-  pub letter_only : lead c ≡ letter → Seen c o → list_all is_word_byte (c ∷ o) ≡ true
-  letter_only is s = elim s [
-    | as_white l n ↦ cc
-    | as_comment l h ↦ cc
-    | as_word l h ↦ h
-    | as_real l h ↦ cc
-    | as_point l h i ↦ cc
-    | as_natural l h i ↦ cc
-    | as_text l h ↦ cc
-    | as_sign l h i ↦ cc
-  ]
-
-  pub digit_only : lead c ≡ digit → Seen c o
-      → (is_fraction (begins is_ascii_digit (c ∷ o)) (following is_ascii_digit (c ∷ o)) ≡ true) ⊎ ((list_all is_ascii_digit (c ∷ o) ≡ true) × (is_natural (c ∷ o) ≡ true))
-  digit_only is s = elim s [
-    | as_white l n ↦ cc
-    | as_comment l h ↦ cc
-    | as_word l h ↦ cc
-    | as_real l h ↦ inl h
-    | as_point l h i ↦ cc
-    | as_natural l h i ↦ inr (h, i)
-    | as_text l h ↦ cc
-    | as_sign l h i ↦ cc
-  ]
-
-  pub point_only : lead c ≡ point → Seen c o → (begins is_ascii_digit o ≡ true) × (is_exponent (following is_ascii_digit o) ≡ true)
-  point_only is s = elim s [
-    | as_white l n ↦ cc
-    | as_comment l h ↦ cc
-    | as_word l h ↦ cc
-    | as_real l h ↦ cc
-    | as_point l h i ↦ (h, i)
-    | as_natural l h i ↦ cc
-    | as_text l h ↦ cc
-    | as_sign l h i ↦ cc
-  ]
-
-  pub quote_only : lead c ≡ quote → Seen c o → is_closed o ≡ true
-  quote_only is s = elim s [
-    | as_white l n ↦ cc
-    | as_comment l h ↦ cc
-    | as_word l h ↦ cc
-    | as_real l h ↦ cc
-    | as_point l h i ↦ cc
-    | as_natural l h i ↦ cc
-    | as_text l h ↦ h
-    | as_sign l h i ↦ cc
-  ]
-
-  pub other_only : lead c ≡ other → Seen c o → (is_comment (c ∷ o) ≡ true) ⊎ ((length o ≤ 1) × (is_some (kind_in signs (c ∷ o)) ≡ true))
-  other_only is s = elim s [
-    | as_white l n ↦ cc
-    | as_comment l h ↦ inl h
-    | as_word l h ↦ cc
-    | as_real l h ↦ cc
-    | as_point l h i ↦ cc
-    | as_natural l h i ↦ cc
-    | as_text l h ↦ cc
-    | as_sign l h i ↦ inr (h, i)
-  ]
 
 -- tests that fail by the first byte
 module _ (c : ℕ) (o : List ℕ) where

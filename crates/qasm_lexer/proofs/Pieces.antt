@@ -12,7 +12,7 @@ use Rattle.qasm_lexer.specs.Tokens.{signs, kind_in, token_kind, word_kind, is_bl
 use Rattle.qasm_lexer.specs.Internal.FirstPiece.{is_inside, fraction_len, is_plain}
 use Rattle.qasm_lexer.proofs.Runs.{run_longest, prefix_len_through, after_through, after_stopped, after_all}
 use Rattle.qasm_lexer.proofs.Reals.{real_longest, real_is, real_fits, begins_fraction, fraction_longest, fraction_is, fraction_fits}
-use Rattle.qasm_lexer.proofs.Leads.{table_all, white, digit, other, lead, lead-space, lead-letter, lead-digit, Seen, seen, white_only, letter_only, digit_only, point_only, quote_only, other_only, no_word, no_real, no_natural, no_text, no_sign, sign_lead, kind-word, kind-real, kind-natural, kind-text, kind-sign, IsLongest}
+use Rattle.qasm_lexer.proofs.Leads.{table_all, white, digit, other, lead, lead-space, lead-letter, lead-digit, Seen, seen, no_word, no_real, no_natural, no_text, no_sign, sign_lead, kind-word, kind-real, kind-natural, kind-text, kind-sign, IsLongest, letter, point, quote, none_since, only}
 
 -- the longest, from what its first byte begins
 longest_by : (b : ℕ) (p after : List ℕ)
@@ -42,7 +42,7 @@ pub white_piece : (b : ℕ) (after : List ℕ) → is_space b ≡ true → IsPie
 white_piece b after e =
     let w : is_blank (b ∷ []) ≡ true = or_left (is_white (b ∷ [])) (is_comment (b ∷ [])) (and_from (is_space b) true e refl) in
     record {
-      longest = longest_by b [] after (λ o rest t s. omega (arith, ap length (white_only b o (lead-space b e) s)));
+      longest = longest_by b [] after (λ o rest t s. omega (arith, ap length (only b o white (lead-space b e) s)));
       taken = or_left (is_blank (b ∷ [])) (is_some (token_kind (b ∷ []))) w;
     }
 
@@ -58,7 +58,7 @@ comment_piece p after e stop =
     let c : is_comment (47 ∷ 47 ∷ p) ≡ true = e in
     let w : is_blank (47 ∷ 47 ∷ p) ≡ true = or_right (is_white (47 ∷ 47 ∷ p)) (is_comment (47 ∷ 47 ∷ p)) c in
     record {
-      longest = longest_by 47 (47 ∷ p) after (λ o rest t s. elim (other_only 47 o refl s) [
+      longest = longest_by 47 (47 ∷ p) after (λ o rest t s. elim (only 47 o other refl s) [
         | inl f ↦ run_stopped is_no_feed o rest (47 ∷ p) after t (no_feed o f) e stop
         | inr f ↦ omega (arith, f.0)
       ]);
@@ -75,7 +75,7 @@ pub word_longest : (b : ℕ) (p after : List ℕ) → is_ascii_alphabetic b ≡ 
     → IsLongest (b ∷ p) after
 word_longest b p after e all stop =
     longest_by b p after (λ o rest t s.
-    run_stopped is_word_byte o rest p after t (and_parts (is_word_byte b) (list_all is_word_byte o) (letter_only b o (lead-letter b e) s)).1 all stop)
+    run_stopped is_word_byte o rest p after t (and_parts (is_word_byte b) (list_all is_word_byte o) (only b o letter (lead-letter b e) s)).1 all stop)
 
 pub word_piece : (b : ℕ) (p after : List ℕ) (kind : TokenKind) → is_ascii_alphabetic b ≡ true → list_all is_word_byte p ≡ true → begins is_word_byte after ≡ false
     → word_kind (b ∷ p) ≡ Some kind → IsPiece (b ∷ p) after × (token_kind (b ∷ p) ≡ Some kind)
@@ -114,7 +114,7 @@ natural_piece b p after all e ends =
     let d : (is_ascii_digit b ≡ true) × (list_all is_ascii_digit p ≡ true) = and_parts (is_ascii_digit b) (list_all is_ascii_digit p) all in
     let k : token_kind (b ∷ p) ≡ Some Natural = natural_kind b p all e in (
       record {
-        longest = longest_by b p after (λ o rest t s. elim (digit_only b o (lead-digit b d.0) s) [
+        longest = longest_by b p after (λ o rest t s. elim (only b o digit (lead-digit b d.0) s) [
           | inl r ↦ absurd (no_real_here (begins is_ascii_digit (b ∷ o)) (b ∷ o) rest (b ∷ p) after (ap (λ x. b ∷ x) t) all ends r)
           | inr n ↦ run_stopped is_ascii_digit o rest p after t (and_parts (is_ascii_digit b) (list_all is_ascii_digit o) n.0).1 d.1 (ends_digits after ends)
         ]);
@@ -128,7 +128,7 @@ pub zero_piece : (ds after : List ℕ) → list_all is_ascii_digit ds ≡ true �
     → IsPiece (48 ∷ []) (ds ++ after) × (token_kind (48 ∷ []) ≡ Some Natural)
 zero_piece ds after all ends = (
   record {
-    longest = longest_by 48 [] (ds ++ after) (λ o rest t s. elim (digit_only 48 o refl s) [
+    longest = longest_by 48 [] (ds ++ after) (λ o rest t s. elim (only 48 o digit refl s) [
       | inl r ↦ absurd (no_real_here true (48 ∷ o) rest (48 ∷ ds) after (ap (λ x. 48 ∷ x) t) all ends r)
       | inr n ↦ no_more o n.1
     ]);
@@ -171,7 +171,7 @@ text_piece q after e =
     let f : is_text (34 ∷ (q ++ 34 ∷ [])) ≡ true = closed_run q e in
     let k : token_kind (34 ∷ (q ++ 34 ∷ [])) ≡ Some Text = kind-text (34 ∷ (q ++ 34 ∷ [])) refl refl refl f in (
       record {
-        longest = longest_by 34 (q ++ 34 ∷ []) after (λ o rest t s. no_longer o rest t (quote_only 34 o refl s));
+        longest = longest_by 34 (q ++ 34 ∷ []) after (λ o rest t s. no_longer o rest t (only 34 o quote refl s));
         taken = taken_by_kind (34 ∷ (q ++ 34 ∷ [])) Text k;
       },
       k,
@@ -192,16 +192,12 @@ begins_long [] = true
 begins_long (a ∷ []) = true
 begins_long (a ∷ b ∷ rest) = eqb a 45 || eqb a 61
 
-none_since : {T : Type 0} (o : Option T) → (is_some o ≡ true → ⊥) → is_none o ≡ true
-none_since None n = refl
-none_since (Some x) n = absurd (n refl)
-
 pub ends_sign-plain : (a : ℕ) (after : List ℕ) → is_plain a ≡ true → ends_sign a after ≡ true
 ends_sign-plain a [] e = refl
 ends_sign-plain a (b ∷ rest) e =
     let p : ((eqb a 45 || eqb a 61) ≡ false) × (eqb a 47 ≡ false) = or_parts (eqb a 45 || eqb a 61) (eqb a 47) (not-true (eqb a 45 || eqb a 61 || eqb a 47) e) in
     and_from (not (eqb a 47 && eqb b 47)) (is_none (kind_in signs (a ∷ b ∷ []))) (rw p.1 refl)
-    (none_since (kind_in signs (a ∷ b ∷ [])) (λ s. both_ways (eqb a 45 || eqb a 61) p.0 (table_all begins_long signs refl (a ∷ b ∷ []) s)))
+    (ap is_none (none_since (kind_in signs (a ∷ b ∷ [])) (λ s. both_ways (eqb a 45 || eqb a 61) p.0 (table_all begins_long signs refl (a ∷ b ∷ []) s))))
 
 sign_kind : (a : ℕ) (p : List ℕ) → lead a ≡ other → token_kind (a ∷ p) ≡ kind_in signs (a ∷ p)
 sign_kind a p l = kind-sign (a ∷ p) (no_word a p (λ m. cc)) (no_real a p (λ m. cc) (λ m. cc)) (no_natural a p (λ m. cc)) (no_text a p (λ m. cc))
@@ -235,7 +231,7 @@ short_sign_piece a after kind e ends =
     let k : token_kind (a ∷ []) ≡ Some kind = sign_kind a [] l ∙ e in (
       record {
         longest = longest_by a [] after
-            (λ o rest t s. omega (arith, ap length (longer_sign a o rest after t ends (other_only a o l s))));
+            (λ o rest t s. omega (arith, ap length (longer_sign a o rest after t ends (only a o other l s))));
         taken = taken_by_kind (a ∷ []) kind k;
       },
       k,
@@ -248,7 +244,7 @@ long_sign_piece a b after kind e apart =
     let l : lead a ≡ other = (sign_lead a (b ∷ []) (ap is_some e)).0 in
     let k : token_kind (a ∷ b ∷ []) ≡ Some kind = sign_kind a (b ∷ []) l ∙ e in (
       record {
-        longest = longest_by a (b ∷ []) after (λ o rest t s. elim (other_only a o l s) [
+        longest = longest_by a (b ∷ []) after (λ o rest t s. elim (only a o other l s) [
           | inl c ↦ absurd (comment_here o rest t c)
           | inr s ↦ omega (arith, s.0)
         ]);
@@ -271,7 +267,7 @@ real_piece b u r n d is n_is =
     let k : token_kind (b ∷ take n u) ≡ Some Real = kind-real (b ∷ take n u) (no_word b (take n u) (λ m. cc)) f in (
       record {
         longest = longest_by b (take n u) (drop n u) (λ o rest t s.
-            no_longer o rest (ap (λ x. b ∷ x) (t ∙ take-append-drop n u)) (digit_only b o l s));
+            no_longer o rest (ap (λ x. b ∷ x) (t ∙ take-append-drop n u)) (only b o digit l s));
         taken = taken_by_kind (b ∷ take n u) Real k;
       },
       k,
@@ -301,7 +297,7 @@ point_piece r e =
     let k : token_kind (46 ∷ x) ≡ Some Real = kind-real (46 ∷ x) refl f in (
       record {
         longest = longest_by 46 x (drop (fraction_len r) r) (λ o rest t s.
-            omega (arith, fraction_longest o rest (point_only 46 o refl s).1, ap fraction_len (t ∙ take-append-drop (fraction_len r) r), length-take-le (fraction_len r) r (fraction_fits r)));
+            omega (arith, fraction_longest o rest (only 46 o point refl s).1, ap fraction_len (t ∙ take-append-drop (fraction_len r) r), length-take-le (fraction_len r) r (fraction_fits r)));
         taken = taken_by_kind (46 ∷ x) Real k;
       },
       k,

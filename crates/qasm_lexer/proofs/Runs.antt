@@ -53,12 +53,6 @@ module _ (test : ℕ → Bool) where
       let p : (test b ≡ true) × (list_all test a ≡ true) = and_parts (test b) (list_all test a) e in
       rw p.0 (omega (arith, prefix_len_through a t p.1))
 
-  pub prefix_through : (a t : List ℕ) → list_all test a ≡ true → prefix test (a ++ t) ≡ a ++ prefix test t
-  prefix_through [] t e = refl
-  prefix_through (b ∷ a) t e =
-      let p : (test b ≡ true) × (list_all test a ≡ true) = and_parts (test b) (list_all test a) e in
-      rw p.0 (ap (λ r. b ∷ r) (prefix_through a t p.1))
-
   pub after_through : (a t : List ℕ) → list_all test a ≡ true → following test (a ++ t) ≡ following test t
   after_through [] t e = refl
   after_through (b ∷ a) t e =

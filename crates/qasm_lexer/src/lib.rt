@@ -4,6 +4,14 @@
 //! the slice and the place of each token; `lex_further` the same, a number of tokens at a time; and
 //! `PieceLexer` the same of a text that comes in pieces, however it is cut.
 //!
+//! Inside:
+//!
+//! - `lexer`, `first_piece`: a text cut into tokens, piece after piece by its first bytes.
+//! - `piece_lexer`, `lines`: a text that comes in pieces, which is cut line by line.
+//! - `token`, `token_list`: tokens, and tokens that are kept without their text.
+//! - `tables`: the words and signs of the language.
+//! - `errors`, `laws`: why a text has no tokens, and what holds of the cuts of every text.
+//!
 //! ```rust
 //! let tokens = lex(alloc, b"OPENQASM 2.0;")?;    // OPENQASM, 2.0 and the semicolon
 //! ```

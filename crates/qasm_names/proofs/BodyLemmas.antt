@@ -22,19 +22,10 @@ use Rattle.qasm_names.specs.declared.names.Names.{Names}
 use Rattle.qasm_names.specs.Places.{place_in}
 use Rattle.qasm_names.proofs.CheckLemmas.{gate_cause-none, same-kept, same-places, wrong_gate-names}
 use Rattle.qasm_names.proofs.Tests.{or-first, or-pairs}
+use Rattle.std.proofs.lemmas.Bool.{or_left, or_right}
+use Rattle.std.proofs.Math.Bool.{or-false}
 
 -- ---- faults together
-or-left : (a b : Bool) → a ≡ true → (a || b) ≡ true
-or-left a b h = ap (λ x. x || b) h
-
-or-right : (a b : Bool) → b ≡ true → (a || b) ≡ true
-or-right true b h = refl
-or-right false b h = h
-
-or-false : (b : Bool) → (b || false) ≡ b
-or-false true = refl
-or-false false = refl
-
 same_faults : {a b c d e f g h : Bool} → a ≡ e → b ≡ f → c ≡ g → d ≡ h
     → let left : BodyFaults = record { unsupported = a; unknown = b; wrong_count = c; same_qubit = d } in
     let right : BodyFaults = record { unsupported = e; unknown = f; wrong_count = g; same_qubit = h } in left ≡ right
@@ -50,10 +41,10 @@ faultless_before : (f g : BodyFaults) → is_faulty (joined f g) ≡ false → i
 faultless_before f g h = or-first (is_faulty f) (is_faulty g) (sym (faulty-joined f g) ∙ h)
 
 pub faulty_later : (f g : BodyFaults) → is_faulty g ≡ true → is_faulty (joined f g) ≡ true
-faulty_later f g h = faulty-joined f g ∙ or-right (is_faulty f) (is_faulty g) h
+faulty_later f g h = faulty-joined f g ∙ or_right (is_faulty f) (is_faulty g) h
 
 pub faulty_earlier : (f g : BodyFaults) → is_faulty f ≡ true → is_faulty (joined f g) ≡ true
-faulty_earlier f g h = faulty-joined f g ∙ or-left (is_faulty f) (is_faulty g) h
+faulty_earlier f g h = faulty-joined f g ∙ or_left (is_faulty f) (is_faulty g) h
 
 any-push : {A : Type 0} (p : A → Bool) (xs : List A) (x : A) → list_any p (xs ++ x ∷ []) ≡ (list_any p xs || p x)
 any-push p xs x = list_any-append p xs (x ∷ []) ∙ ap (λ b. list_any p xs || b) (or-false (p x))

@@ -1,10 +1,9 @@
 -- What is wrong by what names are kept as is what is wrong by the scope.
-use Rattle.std.proofs.Common.{◌≡◌, ℕ, zero, suc, ◌+◌, ◌<◌, ◌==◌, min, nat_lt, inl, inr, arith, Bool, true, false, ◌||◌, List, ◌++◌, if◌then◌else◌, None, Some, refl, sym, ap, ◌∙◌}
+use Rattle.std.proofs.Common.{◌≡◌, ℕ, zero, suc, ◌+◌, ◌<◌, ◌==◌, min, nat_lt, inl, inr, arith, Bool, false, ◌||◌, List, ◌++◌, if◌then◌else◌, None, Some, refl, sym, ap, ◌∙◌}
 use Rattle.std.specs.List.{list_any}
 use Rattle.std.specs.Str.{bytes_eq}
 use Rattle.std.proofs.lemmas.Iterator.Adapters.{position_from-zero}
 use Rattle.qasm_reader.specs.Syntax.{GateForm, DeclareGate, QubitRegister, BitRegister}
-use Rattle.qasm_angle.specs.Trees as tree
 use Rattle.qasm_scope.specs.Angles.{places_among}
 use Rattle.qasm_names.specs.Checks.{Symbols, gate_cause, is_redeclared_by, lookup_by, kept_by}
 use Rattle.qasm_names.specs.Places.{place_in, ArePlaces}
@@ -15,7 +14,6 @@ use Rattle.qasm_names.specs.Kept.{found, symbol_bits, symbol_of, symbol_register
 use Rattle.qasm_scope.specs.Faults.{body_has_unknown, body_has_wrong_count, wrong_in, body_is_unsupported, body_has_same_qubit, form_has_unknown}
 use Rattle.qasm_scope.specs.Scope.{Scope, bit_count, is_taken, numeral, qubit_count, lookup_in}
 use Rattle.qasm_scope.specs.Applications.{has_twice}
-use Rattle.qasm_names.specs.declared.gates.CalledGate.TheVariants as called_gate
 use Rattle.qasm_names.specs.declared.places.Places.{Places}
 use Rattle.qasm_names.proofs.Symbols.{symbol-says, symbol-taken}
 use Rattle.qasm_names.proofs.Tests.{or-second, other_number}
@@ -43,12 +41,8 @@ pub same-places : (places : Places) (names : List (List ℕ)) → ArePlaces plac
 same-places places names h = λ i name. (h name ∙ sym (position_from-zero (λ other. bytes_eq other name) names)) i
 
 pub gate_cause-none : (a b c d e : Bool) → gate_cause a b c d e ≡ None → (a ≡ false) × (b ≡ false) × (c ≡ false) × (d ≡ false) × (e ≡ false)
-gate_cause-none true b c d e h = absurd (cc)
-gate_cause-none false true c d e h = absurd (cc)
-gate_cause-none false false true d e h = absurd (cc)
-gate_cause-none false false false true e h = absurd (cc)
-gate_cause-none false false false false true h = absurd (cc)
 gate_cause-none false false false false false h = (refl, refl, refl, refl, refl)
+gate_cause-none _ _ _ _ _ h = absurd (cc)
 
 -- the causes of a declaration
 pub wrong_in-gate : (scope : Scope) (form : GateForm) → wrong_in scope (DeclareGate form)

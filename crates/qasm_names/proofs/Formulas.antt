@@ -9,9 +9,9 @@ use Rattle.qasm_angle.specs.Trees as tree
 use Rattle.qasm_angle.specs.declared.expression.ExprItem.{ExprItem}
 use Rattle.qasm_angle.specs.declared.expression.ExprItem.TheVariants as step
 use Rattle.qasm_reader.specs.declared.expression.Operator.{Operator}
-use Rattle.qasm_reader.specs.declared.expression.Operator.TheVariants.{Add, Subtract, Multiply, Divide, Power}
+use Rattle.qasm_reader.specs.declared.expression.Operator.TheVariants.{Power}
 use Rattle.qasm_reader.specs.Postfix.{Entry, NegateEntry, BinaryEntry, CallEntry, postfix, push_entries, formula_of, first_or_pi, IsPostfix}
-use Rattle.qasm_reader.specs.Syntax.{Formula, Number, Pi, Name, Negate, Binary, Call}
+use Rattle.qasm_reader.specs.Syntax.{Formula, Name, Negate, Binary, Call}
 use Rattle.qasm_scope.specs.Angles.{is_power, is_unsupported, binary, numbered}
 use Rattle.qasm_names.specs.declared.places.Places.{Places}
 use Rattle.qasm_names.specs.Internal.Entries.{is_unsupported_entry, has_no_place, is_other_entry, operator_of, step_of, AreSteps, IsPlaced}
@@ -20,9 +20,6 @@ use Rattle.qasm_scope.specs.Faults.{has_other_name}
 use Rattle.qasm_names.proofs.Tests.{or-first, or-second, any_or}
 
 push-postfix : (f : Formula) (entries : List Entry) (operands : List Formula) → push_entries (postfix f ++ entries) operands ≡ push_entries entries (f ∷ operands)
-push-postfix (Number text) entries operands = refl
-push-postfix Pi entries operands = refl
-push-postfix (Name name) entries operands = refl
 push-postfix (Negate f) entries operands =
     ap (λ es. push_entries es operands) (append_assoc (postfix f) (NegateEntry ∷ []) entries) ∙ push-postfix f (NegateEntry ∷ entries) operands
 push-postfix (Binary operator f g) entries operands =
@@ -31,6 +28,7 @@ push-postfix (Binary operator f g) entries operands =
     ∙ push-postfix g (BinaryEntry operator ∷ entries) (f ∷ operands)
 push-postfix (Call function f) entries operands =
     ap (λ es. push_entries es operands) (append_assoc (postfix f) (CallEntry function ∷ []) entries) ∙ push-postfix f (CallEntry function ∷ entries) operands
+push-postfix _ entries operands = refl
 
 -- the expression of a postfix order
 pub formula-postfix : (f : Formula) → formula_of (postfix f) ≡ f
@@ -38,24 +36,16 @@ formula-postfix f = ap first_or_pi (ap (λ es. push_entries es []) (sym (append-
 
 or-end : (a b : Bool) → (a || (b || false)) ≡ (b || a)
 or-end true true = refl
-or-end true false = refl
 or-end false true = refl
-or-end false false = refl
+or-end _ _ = refl
 
 or-three : (a b c : Bool) → ((a || b) || (c || false)) ≡ ((c || a) || b)
-or-three true true true = refl
-or-three true true false = refl
-or-three true false true = refl
-or-three true false false = refl
+or-three true b true = refl
 or-three false true true = refl
-or-three false true false = refl
 or-three false false true = refl
-or-three false false false = refl
+or-three _ _ _ = refl
 
 pub unsupported-items : (f : Formula) → list_any is_unsupported_entry (postfix f) ≡ is_unsupported f
-unsupported-items (Number text) = refl
-unsupported-items Pi = refl
-unsupported-items (Name name) = refl
 unsupported-items (Negate f) =
     list_any-append is_unsupported_entry (postfix f) (NegateEntry ∷ []) ∙ or-end (list_any is_unsupported_entry (postfix f)) false ∙ unsupported-items f
 unsupported-items (Binary operator f g) =
@@ -64,10 +54,9 @@ unsupported-items (Binary operator f g) =
     ∙ or-three (is_unsupported f) (is_unsupported g) (is_power operator)
 unsupported-items (Call function f) =
     list_any-append is_unsupported_entry (postfix f) (CallEntry function ∷ []) ∙ or-end (list_any is_unsupported_entry (postfix f)) true
+unsupported-items _ = refl
 
 pub unplaced-items : (places : Places) (f : Formula) → list_any (has_no_place places) (postfix f) ≡ has_other_name (place_in places) f
-unplaced-items places (Number text) = refl
-unplaced-items places Pi = refl
 unplaced-items places (Name name) = or-false (not (is_some (place_in places name)))
 unplaced-items places (Negate f) =
     list_any-append (has_no_place places) (postfix f) (NegateEntry ∷ []) ∙ or-end (list_any (has_no_place places) (postfix f)) false ∙ unplaced-items places f
@@ -77,6 +66,7 @@ unplaced-items places (Binary operator f g) =
     ∙ or-three (has_other_name (place_in places) f) (has_other_name (place_in places) g) false
 unplaced-items places (Call function f) =
     list_any-append (has_no_place places) (postfix f) (CallEntry function ∷ []) ∙ or-end (list_any (has_no_place places) (postfix f)) false ∙ unplaced-items places f
+unplaced-items places _ = refl
 
 -- the same of items that are known to be those of an expression
 pub unsupported-entries : (entries : List Entry) → IsPostfix entries → list_any is_unsupported_entry entries ≡ is_unsupported (formula_of entries)
@@ -94,16 +84,10 @@ other-entries places entries p =
 
 binary-steps : (operator : Operator) (a b : tree.Tree) → is_power operator ≡ false
     → tree.postfix a ++ tree.postfix b ++ step.Binary (operator_of operator) ∷ [] ≡ tree.postfix (binary operator a b)
-binary-steps Add a b h = refl
-binary-steps Subtract a b h = refl
-binary-steps Multiply a b h = refl
-binary-steps Divide a b h = refl
 binary-steps Power a b h = absurd (cc)
+binary-steps _ a b h = refl
 
 pub placed-steps : (places : Places) (f : Formula) → is_unsupported f ≡ false → map (step_of places) (postfix f) ≡ tree.postfix (numbered (place_in places) f)
-placed-steps places (Number text) h = refl
-placed-steps places Pi h = refl
-placed-steps places (Name name) h = refl
 placed-steps places (Negate f) h =
     map-append (step_of places) (postfix f) (NegateEntry ∷ []) ∙ ap (λ steps. steps ++ step.Negate ∷ []) (placed-steps places f h)
 placed-steps places (Binary operator f g) h =
@@ -114,6 +98,7 @@ placed-steps places (Binary operator f g) h =
     ∙ ap (λ steps. tree.postfix (numbered (place_in places) f) ++ steps) (placed-steps places g (or-second _ _ h)))
     ∙ binary-steps operator (numbered (place_in places) f) (numbered (place_in places) g) (or-first _ _ (or-first _ _ h))
 placed-steps places (Call function f) h = absurd (cc)
+placed-steps places _ h = refl
 
 pub steps-placed : (places : Places) (entries : List Entry) (steps : List ExprItem) → IsPostfix entries → AreSteps places entries steps
     → steps ≡ tree.postfix (numbered (place_in places) (formula_of entries))

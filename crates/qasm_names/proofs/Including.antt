@@ -1,19 +1,18 @@
 -- The header's gates are those of the table, and are declared one after the other.
-use Rattle.std.proofs.Common.{◌≡◌, ℕ, zero, suc, ◌+◌, Bool, true, false, ◌||◌, not, if◌then◌else◌, List, [], ◌∷◌, length, map, take, drop, get_or, ◌-◌, ◌<◌, ◌≤◌, None, Some, refl, sym, ap, ap₂, ◌∙◌, subst, arith, inl, inr}
+use Rattle.std.proofs.Common.{◌≡◌, ℕ, zero, suc, ◌+◌, Bool, true, false, ◌||◌, not, if◌then◌else◌, List, [], ◌∷◌, length, map, take, drop, get_or, ◌-◌, ◌≤◌, None, Some, refl, sym, ap, ap₂, ◌∙◌, subst, arith}
 use Rattle.std.specs.List.{list_any, list_all}
 use Rattle.std.specs.Option.{is_some}
 use Rattle.std.specs.Str.{bytes_eq}
-use Rattle.std.proofs.lemmas.Bool.{false≢true, and_parts, cases_Bool}
+use Rattle.std.proofs.lemmas.Bool.{and_parts}
 use Rattle.std.proofs.lemmas.List.{length-map, take_rest}
-use Rattle.std.proofs.lemmas.Slice.Eq.{bytes_eq-Decides}
-use Rattle.qasm_reader.specs.Syntax.{Callee, Declared, U, Cx, BodySentence, BodyApplied, BodyBarrier, GateForm, DeclareGate, Include}
+use Rattle.qasm_reader.specs.Syntax.{Callee, Declared, BodySentence, BodyApplied, BodyBarrier, GateForm, DeclareGate, Include}
 use Rattle.qasm_scope.specs.Angles.{FormalPlaces, numbered, place_or_zero, places_among}
 use Rattle.qasm_scope.specs.declared.causes.Cause.TheVariants as cause
 use Rattle.qasm_scope.specs.Faults.{wrong_in}
 use Rattle.qasm_scope.specs.HeaderGates.{first_gates, further_gates}
 use Rattle.qasm_scope.specs.Meaning.{with_first, with_further, with_header}
-use Rattle.qasm_scope.specs.Scope.{Scope, Declaration, Gate, declared, is_declared}
-use Rattle.qasm_scope.proofs.HeaderScope.{AreFirstFaultless, AreFurtherFaultless, first_faultless, further_faultless, knows, knows_gate, replaceable}
+use Rattle.qasm_scope.specs.Scope.{Scope, Gate, declared, is_declared}
+use Rattle.qasm_scope.proofs.HeaderScope.{AreFirstFaultless, AreFurtherFaultless, Keeps, first_faultless, further_faultless, keeps_step, knows, knows_gate, replaceable}
 use Rattle.qasm_names.specs.declared.gates.CalledGate.TheVariants as called_gate
 use Rattle.qasm_names.specs.declared.header_table.HeaderGate.{HeaderGate}
 use Rattle.qasm_names.specs.declared.names.Names.{Names}
@@ -86,6 +85,11 @@ pub any-first : (names : Names) (scope : Scope) (ns : List (List ℕ)) (b : Bool
     → b ≡ list_any (λ name. is_some (found name names.symbols)) ns → list_any (λ form. is_declared form.name scope) first_gates ≡ b
 any-first names scope ns b r same e = sym (e ∙ any-names names scope ns r ∙ ap (list_any (λ name. is_declared name scope)) same)
 
+-- ---- what is left of a table
+pub rest_is : {A : Type 0} (xs : List A) (default : A) → 1 ≤ length xs → xs ≡ get_or xs 0 default ∷ take (length xs - 1) (drop 1 xs)
+rest_is [] default some = absurd (omega (arith, some))
+rest_is (x ∷ xs) default some = ap (λ rest. x ∷ rest) (sym (take_rest (x ∷ xs) 1))
+
 -- ---- the first gates
 -- the names represent a scope that the gates left in the table bring to the one after all
 pub record FirstLeft (names : Names) (all : Scope) (base : ℕ) (gates : List HeaderGate) : Type 0 where
@@ -107,7 +111,7 @@ first-start names all base table rows r e none = record {
   after = refl;
 }
 
-first-step : (before later : Names) (all : Scope) (base : ℕ) (gate : HeaderGate) (gates : List HeaderGate) → FirstLeft before all base (gate ∷ gates)
+pub first-step : (before later : Names) (all : Scope) (base : ℕ) (gate : HeaderGate) (gates : List HeaderGate) → FirstLeft before all base (gate ∷ gates)
     → DeclaresGate before later gate.name.now gate.angles gate.qubits (body_after base gate) false → FirstLeft later all base gates
 first-step before later all base gate gates l declares = go l.forms l.rows l.faultless l.after where
   go : (forms : List GateForm) → AreFirstRows (gate ∷ gates) forms base l.scope → AreFirstFaultless forms l.scope → with_first forms l.scope ≡ with_first first_gates all → FirstLeft later all base gates
@@ -123,52 +127,17 @@ first-step before later all base gate gates l declares = go l.forms l.rows l.fau
         after = after;
       }
 
-first-end : (names : Names) (all : Scope) (base : ℕ) → FirstLeft names all base [] → Represents names (with_first first_gates all)
+pub first-end : (names : Names) (all : Scope) (base : ℕ) → FirstLeft names all base [] → Represents names (with_first first_gates all)
 first-end names all base l = go l.forms l.rows l.after where
   go : (forms : List GateForm) → AreFirstRows [] forms base l.scope → with_first forms l.scope ≡ with_first first_gates all → Represents names (with_first first_gates all)
   go [] rows after = subst (Represents names) after l.represents
   go (form ∷ forms) rows after = absurd rows
 
-pub first-next : (before later : Names) (all : Scope) (base : ℕ) (rest : List HeaderGate) (default : HeaderGate) → 1 ≤ length rest → FirstLeft before all base rest
-    → DeclaresGate before later (get_or rest 0 default).name.now (get_or rest 0 default).angles (get_or rest 0 default).qubits (body_after base (get_or rest 0 default)) false
-    → FirstLeft later all base (take (length rest - 1) (drop 1 rest))
-first-next before later all base [] default some l declares = absurd (omega (arith, some))
-first-next before later all base (gate ∷ gates) default some l declares =
-    subst (FirstLeft later all base) (sym (take_rest (gate ∷ gates) 1)) (first-step before later all base gate gates l declares)
-
-pub first-none : (names : Names) (all : Scope) (base : ℕ) (rest : List HeaderGate) → length rest < 1 → FirstLeft names all base rest → Represents names (with_first first_gates all)
-first-none names all base [] few l = first-end names all base l
-first-none names all base (gate ∷ gates) few l = absurd (omega (arith, few))
-
 -- ---- scopes in which the names of another one are kept as the same
-pub record KeepsSymbols (before after : Scope) : Type 0 where
-  pub still : (name : List ℕ) → is_declared name before ≡ true → is_declared name after ≡ true
-  pub same : (name : List ℕ) → is_declared name before ≡ true → symbol_of name after ≡ symbol_of name before
-
-other-name : (a b : List ℕ) (scope : Scope) → is_declared a scope ≡ false → is_declared b scope ≡ true → bytes_eq a b ≡ false
-other-name a b scope e f = elim (cases_Bool (bytes_eq a b)) [
-  | inl same ↦ absurd (false≢true (sym e ∙ ap (λ name. is_declared name scope) ((bytes_eq-Decides a b).0 same) ∙ f))
-  | inr other ↦ other
-]
-
-keeps-more : (before after : Scope) (d : Declaration) → is_declared d.name after ≡ false → KeepsSymbols before after → KeepsSymbols before (d ∷ after)
-keeps-more before after d free k = record {
-  still = λ name e. ap₂ (λ same declared. same || declared) (other-name d.name name after free (k.still name e)) (k.still name e);
-  same = λ name e. ap (λ same. if same then Some (symbol_in (gate_count after) d.replaceable d.meaning) else symbol_of name after) (other-name d.name name after free (k.still name e)) ∙ k.same name e;
-}
-
-keeps-step : (before after : Scope) (form : GateForm) → KeepsSymbols before after
-    → KeepsSymbols before (if is_declared form.name after then after else replaceable form ∷ after)
-keeps-step before after form k = go (is_declared form.name after) refl where
-  go : (o : Bool) → is_declared form.name after ≡ o → KeepsSymbols before (if o then after else replaceable form ∷ after)
-  go true e = k
-  go false e = keeps-more before after (replaceable form) e k
-
-module _ (before after : Scope) (k : KeepsSymbols before after) where
+module _ (before after : Scope) (k : Keeps symbol_of before after) where
   same-called : (gate : Callee) → knows_gate before gate ≡ true → called_for (kept_names after) gate ≡ called_for (kept_names before) gate
   same-called (Declared name) e = ap (λ s. called_gate.Gate (number_in s)) (k.same name e)
-  same-called U e = refl
-  same-called Cx e = refl
+  same-called _ e = refl
 
   same-calls : (parameters qubits : FormalPlaces) (body : List BodySentence) → list_all (knows before) body ≡ true
       → kept_calls (kept_names after) parameters qubits body ≡ kept_calls (kept_names before) parameters qubits body
@@ -197,7 +166,7 @@ pub record FurtherLeft (names : Names) (all : Scope) (base : ℕ) (gates : List 
   pub scope : Scope
   pub represents : Represents names scope
   pub rows : AreFurtherRows gates forms base (with_first first_gates all)
-  pub keeps : KeepsSymbols (with_first first_gates all) scope
+  pub keeps : Keeps symbol_of (with_first first_gates all) scope
   pub faultless : AreFurtherFaultless forms scope
   pub after : with_further forms scope ≡ with_header all
 
@@ -228,17 +197,17 @@ further-less before later all base gate gates l represents = go l.forms l.rows l
         scope = with_further (form ∷ []) l.scope;
         represents = represents form (row.0, row.1, row.2, row.3 ∙ sym (same-calls (with_first first_gates all) l.scope l.keeps (places_among form.parameters) (places_among form.qubits) form.body rows.1)) f.0;
         rows = rows.2;
-        keeps = keeps-step (with_first first_gates all) l.scope form l.keeps;
+        keeps = keeps_step symbol_of (with_first first_gates all) l.scope form (symbol_in (gate_count l.scope) true (Gate form)) (λ name. refl) l.keeps;
         faultless = f.1;
         after = after;
       }
 
-further-passed : (names : Names) (all : Scope) (base : ℕ) (gate : HeaderGate) (gates : List HeaderGate) → FurtherLeft names all base (gate ∷ gates)
+pub further-passed : (names : Names) (all : Scope) (base : ℕ) (gate : HeaderGate) (gates : List HeaderGate) → FurtherLeft names all base (gate ∷ gates)
     → is_some (found gate.name.now names.symbols) ≡ true → FurtherLeft names all base gates
 further-passed names all base gate gates l there =
     further-less names names all base gate gates l (λ form row right. already-declared names l.scope gate.name.now form l.represents row.0 there)
 
-further-step : (before later : Names) (all : Scope) (base : ℕ) (gate : HeaderGate) (gates : List HeaderGate) → FurtherLeft before all base (gate ∷ gates)
+pub further-step : (before later : Names) (all : Scope) (base : ℕ) (gate : HeaderGate) (gates : List HeaderGate) → FurtherLeft before all base (gate ∷ gates)
     → is_some (found gate.name.now before.symbols) ≡ false
     → DeclaresGate before later gate.name.now gate.angles gate.qubits (body_after base gate) true → FurtherLeft later all base gates
 further-step before later all base gate gates l none declares =
@@ -246,25 +215,8 @@ further-step before later all base gate gates l none declares =
     (λ form row right. newly-declared before later l.scope gate.name.now form l.represents row.0 none
     (λ e. declares l.scope form l.represents row.0 row.1 row.2 row.3 (sound-from l.scope form (right e)) e))
 
-further-end : (names : Names) (all : Scope) (base : ℕ) → FurtherLeft names all base [] → Represents names (with_header all)
+pub further-end : (names : Names) (all : Scope) (base : ℕ) → FurtherLeft names all base [] → Represents names (with_header all)
 further-end names all base l = go l.forms l.rows l.after where
   go : (forms : List GateForm) → AreFurtherRows [] forms base (with_first first_gates all) → with_further forms l.scope ≡ with_header all → Represents names (with_header all)
   go [] rows after = subst (Represents names) after l.represents
   go (form ∷ forms) rows after = absurd rows
-
-pub further-next : (before later : Names) (all : Scope) (base : ℕ) (rest : List HeaderGate) (default : HeaderGate) → 1 ≤ length rest → FurtherLeft before all base rest → is_some (found (get_or rest 0 default).name.now before.symbols) ≡ false
-    → DeclaresGate before later (get_or rest 0 default).name.now (get_or rest 0 default).angles (get_or rest 0 default).qubits (body_after base (get_or rest 0 default)) true
-    → FurtherLeft later all base (take (length rest - 1) (drop 1 rest))
-further-next before later all base [] default some l none declares = absurd (omega (arith, some))
-further-next before later all base (gate ∷ gates) default some l none declares =
-    subst (FurtherLeft later all base) (sym (take_rest (gate ∷ gates) 1)) (further-step before later all base gate gates l none declares)
-
-pub further-none : (names : Names) (all : Scope) (base : ℕ) (rest : List HeaderGate) → length rest < 1 → FurtherLeft names all base rest → Represents names (with_header all)
-further-none names all base [] few l = further-end names all base l
-further-none names all base (gate ∷ gates) few l = absurd (omega (arith, few))
-
-pub further-declared : (names : Names) (all : Scope) (base : ℕ) (rest : List HeaderGate) (default : HeaderGate) → 1 ≤ length rest → FurtherLeft names all base rest
-    → is_some (found (get_or rest 0 default).name.now names.symbols) ≡ true → FurtherLeft names all base (take (length rest - 1) (drop 1 rest))
-further-declared names all base [] default some l there = absurd (omega (arith, some))
-further-declared names all base (gate ∷ gates) default some l there =
-    subst (FurtherLeft names all base) (sym (take_rest (gate ∷ gates) 1)) (further-passed names all base gate gates l there)

@@ -17,6 +17,7 @@ use Rattle.qasm_names.specs.Places.{place_in, ArePlaces}
 use Rattle.qasm_names.proofs.Tests.{or-first, or-second, or-first-of}
 use Rattle.qasm_names.proofs.Formulas.{is_some-place}
 use Rattle.qasm_scope.specs.Applications.{has_twice}
+use Rattle.std.proofs.lemmas.Bool.{or_right}
 
 abbrev or_place : Option ℕ → Option ℕ → Option ℕ
 or_place None other = other
@@ -81,13 +82,8 @@ bytes_eq-turned xs ys true e = (bytes_eq-Decides ys xs).1 (sym ((bytes_eq-Decide
 bytes_eq-turned xs ys false e = turned-at (bytes_eq ys xs) xs ys refl e
 
 or-middle : (a b c d : Bool) → b ≡ true → ((a || (b || c)) || d) ≡ true
-or-middle true b c d h = refl
-or-middle false true c d h = refl
 or-middle false false c d h = absurd (cc)
-
-or-right : (a b : Bool) → b ≡ true → (a || b) ≡ true
-or-right true b h = refl
-or-right false b h = h
+or-middle _ _ c d h = refl
 
 twice-at : (b : Bool) (x y : List ℕ) (xs ys : List (List ℕ)) → bytes_eq x y ≡ b → (b || list_any (λ other. bytes_eq other y) xs) ≡ true
     → (list_any (λ other. bytes_eq other y) xs ≡ true → has_twice bytes_eq (xs ++ y ∷ ys) ≡ true)
@@ -95,7 +91,7 @@ twice-at : (b : Bool) (x y : List ℕ) (xs ys : List (List ℕ)) → bytes_eq x 
 twice-at true x y xs ys e h rest =
     ap (λ b. b || has_twice bytes_eq (xs ++ y ∷ ys)) (list_any-append (λ other. bytes_eq other x) xs (y ∷ ys))
     ∙ or-middle (list_any (λ other. bytes_eq other x) xs) (bytes_eq y x) (list_any (λ other. bytes_eq other x) ys) (has_twice bytes_eq (xs ++ y ∷ ys)) (bytes_eq-turned x y true e)
-twice-at false x y xs ys e h rest = or-right (list_any (λ other. bytes_eq other x) (xs ++ y ∷ ys)) (has_twice bytes_eq (xs ++ y ∷ ys)) (rest h)
+twice-at false x y xs ys e h rest = or_right (list_any (λ other. bytes_eq other x) (xs ++ y ∷ ys)) (has_twice bytes_eq (xs ++ y ∷ ys)) (rest h)
 
 -- a name that stands before stands twice
 pub twice-found : (xs : List (List ℕ)) (y : List ℕ) (ys : List (List ℕ)) → list_any (λ other. bytes_eq other y) xs ≡ true → has_twice bytes_eq (xs ++ y ∷ ys) ≡ true

@@ -20,10 +20,9 @@ Says symbol meaning =
 
 says-at : (b replaceable : Bool) (n : ℕ) (m : Meaning) (symbol : Option Symbol) (meaning : Option Meaning) → Says symbol meaning
     → Says (if b then Some (symbol_in n replaceable m) else symbol) (if b then Some m else meaning)
-says-at true replaceable n (Gate form) symbol meaning h = (refl, refl, refl)
-says-at true replaceable n (Qubits first size) symbol meaning h = (refl, refl, refl)
-says-at true replaceable n (Bits first size) symbol meaning h = (refl, refl, refl)
 says-at false replaceable n m symbol meaning h = h
+says-at true replaceable n (Gate form) symbol meaning h = (refl, refl, refl)
+says-at true replaceable n _ symbol meaning h = (refl, refl, refl)
 
 pub symbol-says : (name : List ℕ) (scope : Scope) → Says (symbol_of name scope) (meaning_of name scope)
 symbol-says name [] = (refl, refl, refl)
@@ -41,12 +40,11 @@ taken-at : (b replaceable : Bool) (n : ℕ) (m : Meaning) (scope : Scope) (symbo
     → IsSoundMeaning scope m replaceable → (b ≡ true → replaceable ≡ true → rest ≡ false)
     → symbol_taken (if b then Some (symbol_in n replaceable m) else symbol) ≡ ((b && not replaceable) || rest)
 taken-at true true n (Gate form) scope symbol rest h sound fresh = sym (fresh refl refl)
-taken-at true false n (Gate form) scope symbol rest h sound fresh = refl
 taken-at true true n (Qubits first size) scope symbol rest h sound fresh = absurd (let e = sound.1 in cc)
-taken-at true false n (Qubits first size) scope symbol rest h sound fresh = refl
 taken-at true true n (Bits first size) scope symbol rest h sound fresh = absurd (let e = sound.1 in cc)
-taken-at true false n (Bits first size) scope symbol rest h sound fresh = refl
 taken-at false replaceable n m scope symbol rest h sound fresh = h
+taken-at true false n (Gate form) scope symbol rest h sound fresh = refl
+taken-at true false n _ scope symbol rest h sound fresh = refl
 
 fresh-taken : (d : Declaration) (replaceable : Bool) (name : List ℕ) (scope : Scope) → IsFresh d.name replaceable scope → bytes_eq d.name name ≡ true → replaceable ≡ true → is_taken name scope ≡ false
 fresh-taken d true name scope fresh same r =
@@ -60,9 +58,8 @@ symbol-taken name (d ∷ scope) sound =
     (symbol-taken name scope sound.2) sound.0 (fresh-taken d d.replaceable name scope sound.1)
 
 kept-length-at : (m : Meaning) (scope : Scope) → length (kept_gates scope) ≡ gate_count scope → length (kept_gates scope ++ kept_in scope m) ≡ gates_in m + gate_count scope
-kept-length-at (Gate form) scope h = simp length-append (omega arith)
 kept-length-at (Qubits first size) scope h = simp length-append (omega arith)
-kept-length-at (Bits first size) scope h = simp length-append (omega arith)
+kept-length-at _ scope h = simp length-append (omega arith)
 
 pub kept-length : (scope : Scope) → length (kept_gates scope) ≡ gate_count scope
 kept-length [] = refl

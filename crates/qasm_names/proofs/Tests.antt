@@ -34,10 +34,8 @@ any_map p f [] = refl
 any_map p f (x ∷ xs) = ap (λ b. p (f x) || b) (any_map p f xs)
 
 pub or-pairs : (a b c d : Bool) → ((a || b) || (c || d)) ≡ ((a || c) || (b || d))
-or-pairs true b c d = refl
-or-pairs false true true d = refl
 or-pairs false true false d = refl
-or-pairs false false c d = refl
+or-pairs _ _ _ d = refl
 
 -- one of two tests
 pub any_or : {A : Type 0} (p q : A → Bool) (xs : List A) → list_any (λ x. p x || q x) xs ≡ (list_any p xs || list_any q xs)
@@ -46,7 +44,6 @@ any_or p q (x ∷ xs) = ap (λ b. (p x || q x) || b) (any_or p q xs) ∙ or-pair
 
 -- one of two tests is met by one element, so by all together
 pub or-first-of : (a b c d : Bool) → (a || b) ≡ true → ((a || c) || (b || d)) ≡ true
-or-first-of true b c d h = refl
-or-first-of false true true d h = refl
-or-first-of false true false d h = refl
 or-first-of false false c d h = absurd (cc)
+or-first-of false true true d h = refl
+or-first-of _ _ _ d h = refl

@@ -68,71 +68,42 @@ pub(crate) enum Turn {
     Parameter(usize),
 }
 
-const ZERO: HeaderAngle = HeaderAngle {
-    turn: Turn::Zero,
-    negated: false,
-    divisor: Divisor::One,
-};
+// An angle by what it is made of, whether it has the other sign, and its divisor.
+macro_rules! angle {
+    ($turn:expr, $negated:literal, $divisor:expr) => {
+        HeaderAngle {
+            turn: $turn,
+            negated: $negated,
+            divisor: $divisor,
+        }
+    };
+}
 
-const PI: HeaderAngle = HeaderAngle {
-    turn: Turn::Pi,
-    negated: false,
-    divisor: Divisor::One,
-};
+const ZERO: HeaderAngle = angle!(Turn::Zero, false, Divisor::One);
 
-const HALF_PI: HeaderAngle = HeaderAngle {
-    turn: Turn::Pi,
-    negated: false,
-    divisor: Divisor::Two,
-};
+const PI: HeaderAngle = angle!(Turn::Pi, false, Divisor::One);
 
-const MINUS_HALF_PI: HeaderAngle = HeaderAngle {
-    turn: Turn::Pi,
-    negated: true,
-    divisor: Divisor::Two,
-};
+const HALF_PI: HeaderAngle = angle!(Turn::Pi, false, Divisor::Two);
 
-const QUARTER_PI: HeaderAngle = HeaderAngle {
-    turn: Turn::Pi,
-    negated: false,
-    divisor: Divisor::Four,
-};
+const MINUS_HALF_PI: HeaderAngle = angle!(Turn::Pi, true, Divisor::Two);
 
-const MINUS_QUARTER_PI: HeaderAngle = HeaderAngle {
-    turn: Turn::Pi,
-    negated: true,
-    divisor: Divisor::Four,
-};
+const QUARTER_PI: HeaderAngle = angle!(Turn::Pi, false, Divisor::Four);
 
-const FIRST_PARAMETER: HeaderAngle = HeaderAngle {
-    turn: Turn::Parameter(0),
-    negated: false,
-    divisor: Divisor::One,
-};
+const MINUS_QUARTER_PI: HeaderAngle = angle!(Turn::Pi, true, Divisor::Four);
 
-const SECOND_PARAMETER: HeaderAngle = HeaderAngle {
-    turn: Turn::Parameter(1),
-    negated: false,
-    divisor: Divisor::One,
-};
+const FIRST_PARAMETER: HeaderAngle = angle!(Turn::Parameter(0), false, Divisor::One);
 
-const THIRD_PARAMETER: HeaderAngle = HeaderAngle {
-    turn: Turn::Parameter(2),
-    negated: false,
-    divisor: Divisor::One,
-};
+const SECOND_PARAMETER: HeaderAngle = angle!(Turn::Parameter(1), false, Divisor::One);
 
-const HALF_PARAMETER: HeaderAngle = HeaderAngle {
-    turn: Turn::Parameter(0),
-    negated: false,
-    divisor: Divisor::Two,
-};
+const THIRD_PARAMETER: HeaderAngle = angle!(Turn::Parameter(2), false, Divisor::One);
 
-const MINUS_HALF_PARAMETER: HeaderAngle = HeaderAngle {
-    turn: Turn::Parameter(0),
-    negated: true,
-    divisor: Divisor::Two,
-};
+const HALF_PARAMETER: HeaderAngle = angle!(Turn::Parameter(0), false, Divisor::Two);
+
+const MINUS_HALF_PARAMETER: HeaderAngle = angle!(Turn::Parameter(0), true, Divisor::Two);
+
+const U: HeaderCalled = HeaderCalled::U;
+
+const BUILT_IN_CX: HeaderCalled = HeaderCalled::Cx;
 
 const U3: HeaderCalled = HeaderCalled::Gate(0);
 
@@ -160,285 +131,71 @@ const CCX: HeaderCalled = HeaderCalled::Gate(19);
 
 const CRZ: HeaderCalled = HeaderCalled::Gate(20);
 
+// Rows of the table: each gate's name, how many angles and qubits it has, and the calls in its body. A call is the gate
+// that is called, its angles, and the places of its qubits.
+macro_rules! gates {
+    ($($name:literal $angles:literal $qubits:literal
+        { $($called:ident($($angle:ident),*) $($place:literal),+;)+ })+) => {
+        [$(HeaderGate {
+            name: $name,
+            angles: $angles,
+            qubits: $qubits,
+            calls: &[$(($called, &[$($angle),*], &[$($place),+])),+],
+        }),+]
+    };
+}
+
 // The first gates: no program that includes the header declares their names.
-static FIRST: [HeaderGate; 22] = [
-    HeaderGate {
-        name: b"u3",
-        angles: 3,
-        qubits: 1,
-        calls: &[(
-            HeaderCalled::U,
-            &[FIRST_PARAMETER, SECOND_PARAMETER, THIRD_PARAMETER],
-            &[0],
-        )],
-    },
-    HeaderGate {
-        name: b"u2",
-        angles: 2,
-        qubits: 1,
-        calls: &[(
-            HeaderCalled::U,
-            &[HALF_PI, FIRST_PARAMETER, SECOND_PARAMETER],
-            &[0],
-        )],
-    },
-    HeaderGate {
-        name: b"u1",
-        angles: 1,
-        qubits: 1,
-        calls: &[(HeaderCalled::U, &[ZERO, ZERO, FIRST_PARAMETER], &[0])],
-    },
-    HeaderGate {
-        name: b"cx",
-        angles: 0,
-        qubits: 2,
-        calls: &[(HeaderCalled::Cx, &[], &[0, 1])],
-    },
-    HeaderGate {
-        name: b"id",
-        angles: 0,
-        qubits: 1,
-        calls: &[(HeaderCalled::U, &[ZERO, ZERO, ZERO], &[0])],
-    },
-    HeaderGate {
-        name: b"x",
-        angles: 0,
-        qubits: 1,
-        calls: &[(U3, &[PI, ZERO, PI], &[0])],
-    },
-    HeaderGate {
-        name: b"y",
-        angles: 0,
-        qubits: 1,
-        calls: &[(U3, &[PI, HALF_PI, HALF_PI], &[0])],
-    },
-    HeaderGate {
-        name: b"z",
-        angles: 0,
-        qubits: 1,
-        calls: &[(U1, &[PI], &[0])],
-    },
-    HeaderGate {
-        name: b"h",
-        angles: 0,
-        qubits: 1,
-        calls: &[(U2, &[ZERO, PI], &[0])],
-    },
-    HeaderGate {
-        name: b"s",
-        angles: 0,
-        qubits: 1,
-        calls: &[(U1, &[HALF_PI], &[0])],
-    },
-    HeaderGate {
-        name: b"sdg",
-        angles: 0,
-        qubits: 1,
-        calls: &[(U1, &[MINUS_HALF_PI], &[0])],
-    },
-    HeaderGate {
-        name: b"t",
-        angles: 0,
-        qubits: 1,
-        calls: &[(U1, &[QUARTER_PI], &[0])],
-    },
-    HeaderGate {
-        name: b"tdg",
-        angles: 0,
-        qubits: 1,
-        calls: &[(U1, &[MINUS_QUARTER_PI], &[0])],
-    },
-    HeaderGate {
-        name: b"rx",
-        angles: 1,
-        qubits: 1,
-        calls: &[(U3, &[FIRST_PARAMETER, MINUS_HALF_PI, HALF_PI], &[0])],
-    },
-    HeaderGate {
-        name: b"ry",
-        angles: 1,
-        qubits: 1,
-        calls: &[(U3, &[FIRST_PARAMETER, ZERO, ZERO], &[0])],
-    },
-    HeaderGate {
-        name: b"rz",
-        angles: 1,
-        qubits: 1,
-        calls: &[(U1, &[FIRST_PARAMETER], &[0])],
-    },
-    HeaderGate {
-        name: b"cz",
-        angles: 0,
-        qubits: 2,
-        calls: &[(H, &[], &[1]), (CX, &[], &[0, 1]), (H, &[], &[1])],
-    },
-    HeaderGate {
-        name: b"cy",
-        angles: 0,
-        qubits: 2,
-        calls: &[(SDG, &[], &[1]), (CX, &[], &[0, 1]), (S, &[], &[1])],
-    },
-    HeaderGate {
-        name: b"ch",
-        angles: 0,
-        qubits: 2,
-        calls: &[
-            (H, &[], &[1]),
-            (SDG, &[], &[1]),
-            (CX, &[], &[0, 1]),
-            (H, &[], &[1]),
-            (T, &[], &[1]),
-            (CX, &[], &[0, 1]),
-            (T, &[], &[1]),
-            (H, &[], &[1]),
-            (S, &[], &[1]),
-            (X, &[], &[1]),
-            (S, &[], &[0]),
-        ],
-    },
-    HeaderGate {
-        name: b"ccx",
-        angles: 0,
-        qubits: 3,
-        calls: &[
-            (H, &[], &[2]),
-            (CX, &[], &[1, 2]),
-            (TDG, &[], &[2]),
-            (CX, &[], &[0, 2]),
-            (T, &[], &[2]),
-            (CX, &[], &[1, 2]),
-            (TDG, &[], &[2]),
-            (CX, &[], &[0, 2]),
-            (T, &[], &[1]),
-            (T, &[], &[2]),
-            (H, &[], &[2]),
-            (CX, &[], &[0, 1]),
-            (T, &[], &[0]),
-            (TDG, &[], &[1]),
-            (CX, &[], &[0, 1]),
-        ],
-    },
-    HeaderGate {
-        name: b"crz",
-        angles: 1,
-        qubits: 2,
-        calls: &[
-            (U1, &[HALF_PARAMETER], &[1]),
-            (CX, &[], &[0, 1]),
-            (U1, &[MINUS_HALF_PARAMETER], &[1]),
-            (CX, &[], &[0, 1]),
-        ],
-    },
-    HeaderGate {
-        name: b"cu1",
-        angles: 1,
-        qubits: 2,
-        calls: &[
-            (U1, &[HALF_PARAMETER], &[0]),
-            (CX, &[], &[0, 1]),
-            (U1, &[MINUS_HALF_PARAMETER], &[1]),
-            (CX, &[], &[0, 1]),
-            (U1, &[HALF_PARAMETER], &[1]),
-        ],
-    },
-];
+static FIRST: [HeaderGate; 22] = gates! {
+    b"u3" 3 1 { U(FIRST_PARAMETER, SECOND_PARAMETER, THIRD_PARAMETER) 0; }
+    b"u2" 2 1 { U(HALF_PI, FIRST_PARAMETER, SECOND_PARAMETER) 0; }
+    b"u1" 1 1 { U(ZERO, ZERO, FIRST_PARAMETER) 0; }
+    b"cx" 0 2 { BUILT_IN_CX() 0, 1; }
+    b"id" 0 1 { U(ZERO, ZERO, ZERO) 0; }
+    b"x" 0 1 { U3(PI, ZERO, PI) 0; }
+    b"y" 0 1 { U3(PI, HALF_PI, HALF_PI) 0; }
+    b"z" 0 1 { U1(PI) 0; }
+    b"h" 0 1 { U2(ZERO, PI) 0; }
+    b"s" 0 1 { U1(HALF_PI) 0; }
+    b"sdg" 0 1 { U1(MINUS_HALF_PI) 0; }
+    b"t" 0 1 { U1(QUARTER_PI) 0; }
+    b"tdg" 0 1 { U1(MINUS_QUARTER_PI) 0; }
+    b"rx" 1 1 { U3(FIRST_PARAMETER, MINUS_HALF_PI, HALF_PI) 0; }
+    b"ry" 1 1 { U3(FIRST_PARAMETER, ZERO, ZERO) 0; }
+    b"rz" 1 1 { U1(FIRST_PARAMETER) 0; }
+    b"cz" 0 2 { H() 1; CX() 0, 1; H() 1; }
+    b"cy" 0 2 { SDG() 1; CX() 0, 1; S() 1; }
+    b"ch" 0 2 {
+        H() 1; SDG() 1; CX() 0, 1; H() 1; T() 1; CX() 0, 1; T() 1; H() 1; S() 1; X() 1; S() 0;
+    }
+    b"ccx" 0 3 {
+        H() 2; CX() 1, 2; TDG() 2; CX() 0, 2; T() 2; CX() 1, 2; TDG() 2; CX() 0, 2; T() 1; T() 2;
+        H() 2; CX() 0, 1; T() 0; TDG() 1; CX() 0, 1;
+    }
+    b"crz" 1 2 { U1(HALF_PARAMETER) 1; CX() 0, 1; U1(MINUS_HALF_PARAMETER) 1; CX() 0, 1; }
+    b"cu1" 1 2 {
+        U1(HALF_PARAMETER) 0; CX() 0, 1; U1(MINUS_HALF_PARAMETER) 1; CX() 0, 1;
+        U1(HALF_PARAMETER) 1;
+    }
+};
 
 // Further gates, whose names a program may declare itself.
-static FURTHER: [HeaderGate; 11] = [
-    HeaderGate {
-        name: b"p",
-        angles: 1,
-        qubits: 1,
-        calls: &[(HeaderCalled::U, &[ZERO, ZERO, FIRST_PARAMETER], &[0])],
-    },
-    HeaderGate {
-        name: b"u",
-        angles: 3,
-        qubits: 1,
-        calls: &[(
-            HeaderCalled::U,
-            &[FIRST_PARAMETER, SECOND_PARAMETER, THIRD_PARAMETER],
-            &[0],
-        )],
-    },
-    HeaderGate {
-        name: b"swap",
-        angles: 0,
-        qubits: 2,
-        calls: &[(CX, &[], &[0, 1]), (CX, &[], &[1, 0]), (CX, &[], &[0, 1])],
-    },
-    HeaderGate {
-        name: b"sx",
-        angles: 0,
-        qubits: 1,
-        calls: &[(SDG, &[], &[0]), (H, &[], &[0]), (SDG, &[], &[0])],
-    },
-    HeaderGate {
-        name: b"sxdg",
-        angles: 0,
-        qubits: 1,
-        calls: &[(S, &[], &[0]), (H, &[], &[0]), (S, &[], &[0])],
-    },
-    HeaderGate {
-        name: b"cp",
-        angles: 1,
-        qubits: 2,
-        calls: &[
-            (U1, &[HALF_PARAMETER], &[0]),
-            (CX, &[], &[0, 1]),
-            (U1, &[MINUS_HALF_PARAMETER], &[1]),
-            (CX, &[], &[0, 1]),
-            (U1, &[HALF_PARAMETER], &[1]),
-        ],
-    },
-    HeaderGate {
-        name: b"cswap",
-        angles: 0,
-        qubits: 3,
-        calls: &[
-            (CX, &[], &[2, 1]),
-            (CCX, &[], &[0, 1, 2]),
-            (CX, &[], &[2, 1]),
-        ],
-    },
-    HeaderGate {
-        name: b"ccz",
-        angles: 0,
-        qubits: 3,
-        calls: &[(H, &[], &[2]), (CCX, &[], &[0, 1, 2]), (H, &[], &[2])],
-    },
-    HeaderGate {
-        name: b"crx",
-        angles: 1,
-        qubits: 2,
-        calls: &[
-            (H, &[], &[1]),
-            (CRZ, &[FIRST_PARAMETER], &[0, 1]),
-            (H, &[], &[1]),
-        ],
-    },
-    HeaderGate {
-        name: b"cry",
-        angles: 1,
-        qubits: 2,
-        calls: &[
-            (RY, &[HALF_PARAMETER], &[1]),
-            (CX, &[], &[0, 1]),
-            (RY, &[MINUS_HALF_PARAMETER], &[1]),
-            (CX, &[], &[0, 1]),
-        ],
-    },
-    HeaderGate {
-        name: b"rzz",
-        angles: 1,
-        qubits: 2,
-        calls: &[
-            (CX, &[], &[0, 1]),
-            (U1, &[FIRST_PARAMETER], &[1]),
-            (CX, &[], &[0, 1]),
-        ],
-    },
-];
+static FURTHER: [HeaderGate; 11] = gates! {
+    b"p" 1 1 { U(ZERO, ZERO, FIRST_PARAMETER) 0; }
+    b"u" 3 1 { U(FIRST_PARAMETER, SECOND_PARAMETER, THIRD_PARAMETER) 0; }
+    b"swap" 0 2 { CX() 0, 1; CX() 1, 0; CX() 0, 1; }
+    b"sx" 0 1 { SDG() 0; H() 0; SDG() 0; }
+    b"sxdg" 0 1 { S() 0; H() 0; S() 0; }
+    b"cp" 1 2 {
+        U1(HALF_PARAMETER) 0; CX() 0, 1; U1(MINUS_HALF_PARAMETER) 1; CX() 0, 1;
+        U1(HALF_PARAMETER) 1;
+    }
+    b"cswap" 0 3 { CX() 2, 1; CCX() 0, 1, 2; CX() 2, 1; }
+    b"ccz" 0 3 { H() 2; CCX() 0, 1, 2; H() 2; }
+    b"crx" 1 2 { H() 1; CRZ(FIRST_PARAMETER) 0, 1; H() 1; }
+    b"cry" 1 2 { RY(HALF_PARAMETER) 1; CX() 0, 1; RY(MINUS_HALF_PARAMETER) 1; CX() 0, 1; }
+    b"rzz" 1 2 { CX() 0, 1; U1(FIRST_PARAMETER) 1; CX() 0, 1; }
+};
 
 /// The first gates.
 pub(crate) fn first_table() -> &'static [HeaderGate]

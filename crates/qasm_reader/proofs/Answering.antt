@@ -1,5 +1,5 @@
 -- What each answer of the parser means, from what it says of the tokens.
-use Rattle.std.proofs.Common.{◌≡◌, ℕ, List, Option, None, Some, Result, Ok, Err, IfOk, OnOk, sym, ◌∙◌, subst}
+use Rattle.std.proofs.Common.{◌≡◌, ℕ, List, None, Some, Result, Ok, Err, IfOk, OnOk, sym, ◌∙◌, subst}
 use Rattle.qasm_lexer.specs.Tokens.{Lexeme}
 use Rattle.qasm_reader.specs.declared.error.ParseError.{ParseError}
 use Rattle.qasm_reader.specs.declared.error.ParseError.TheVariants.{Syntax, TooDeep, NoMemory}
@@ -11,12 +11,7 @@ use Rattle.qasm_reader.specs.Grammar.{IsProgram, IsSyntaxFault}
 use Rattle.qasm_reader.specs.Answers.{AnswersProgram, AnswersFault}
 use Rattle.qasm_reader.specs.Internal.Parsing.{IsAnswer}
 use Rattle.qasm_reader.proofs.Programs.{one_program, one_fault, program_no_fault}
-
-not_none : {A : Type 0} (x : A) (o : Option A) → o ≡ Some x → o ≡ None → ⊥
-not_none {A = A} x o e f = absurd (let h : ◌≡◌ {A = Option A} (Some x) None = sym e ∙ f in cc)
-
-same : {A : Type 0} (x y : A) → ◌≡◌ {A = Option A} (Some x) (Some y) → x ≡ y
-same x y e = cc
+use Rattle.qasm_reader.proofs.Steps.{not_none, same}
 
 pub found : (ts : List Lexeme) (r : Result Program ParseError) → IsAnswer ts r → IfOk r (λ program. IsProgram ts (statements_of program))
 found ts (Ok program) a = a.1

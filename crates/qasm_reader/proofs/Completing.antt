@@ -109,15 +109,12 @@ joins op low high f g us vs t rest output ps is first second rests left right = 
 
 -- what doesn't bind so strongly doesn't bind more strongly either
 rests_more : (ps : List Pending) → (Rests 1 ps → Rests 2 ps) × (Rests 2 ps → Rests 4 ps)
-rests_more [] = (λ r. r, λ r. r)
-rests_more (pending.Negate ∷ ps) = (λ r. r, λ r. r)
 rests_more (pending.Binary Add ∷ ps) = (λ r. refl, λ r. refl)
 rests_more (pending.Binary Subtract ∷ ps) = (λ r. refl, λ r. refl)
 rests_more (pending.Binary Multiply ∷ ps) = (λ r. r, λ r. refl)
 rests_more (pending.Binary Divide ∷ ps) = (λ r. r, λ r. refl)
 rests_more (pending.Binary Power ∷ ps) = (λ r. r, λ r. refl)
-rests_more (pending.Parenthesis ∷ ps) = (λ r. r, λ r. r)
-rests_more (pending.Call f ∷ ps) = (λ r. r, λ r. r)
+rests_more _ = (λ r. r, λ r. r)
 
 -- a lower level asks for less
 lower : (low high : ℕ) (f : Formula) (us rest : List Lexeme) (output : List Entry) (ps : List Pending) → low ≤ high → Runs high f us rest output ps → Runs low f us rest output ps

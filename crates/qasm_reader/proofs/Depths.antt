@@ -1,9 +1,10 @@
 -- The first place that is too deep, by prefixes of the tokens.
-use Rattle.std.proofs.Common.{◌≡◌, ℕ, ◌<◌, ◌≤◌, Bool, true, false, cond, ltb, ltb-true, ltb-false, lt-ltb, le-ltb, List, [], ◌∷◌, ◌++◌, Option, None, Some, refl, sym, ap, ◌∙◌, subst, arith}
+use Rattle.std.proofs.Common.{◌≡◌, ℕ, ◌<◌, ◌≤◌, Bool, true, false, cond, ltb, ltb-true, ltb-false, lt-ltb, le-ltb, List, [], ◌∷◌, ◌++◌, None, Some, refl, sym, ap, ◌∙◌, subst, arith}
 use Rattle.qasm_lexer.specs.declared.token.TokenKind.{TokenKind}
-use Rattle.qasm_lexer.specs.declared.token.TokenKind.TheVariants.{LeftParenthesis, RightParenthesis, Semicolon, LeftBrace, RightBrace}
+use Rattle.qasm_lexer.specs.declared.token.TokenKind.TheVariants.{LeftParenthesis}
 use Rattle.qasm_lexer.specs.Tokens.{Lexeme}
 use Rattle.qasm_reader.specs.Depth.{most_open, open_after, too_deep_from, open_at_end}
+use Rattle.qasm_reader.proofs.Steps.{none_some, same}
 
 abbrev ShallowFrom : ℕ → List Lexeme → Type 0
 ShallowFrom n ts = (prefix more : List Lexeme) → ts ≡ prefix ++ more → open_at_end n prefix ≤ most_open
@@ -30,19 +31,9 @@ tail_is t u ts us e = cc
 nil_cons : (u : Lexeme) (us : List Lexeme) → [] ≡ u ∷ us → ⊥
 nil_cons u us e = cc
 
-some_none : {A : Type 0} (x : A) → ◌≡◌ {A = Option A} (Some x) None → ⊥
-some_none x e = cc
-
-same : {A : Type 0} (x y : A) → ◌≡◌ {A = Option A} (Some x) (Some y) → x ≡ y
-same x y e = cc
-
 -- only a left parenthesis makes more
 left_is : (k : TokenKind) (n : ℕ) → n ≤ most_open → most_open < open_after n k → k ≡ LeftParenthesis
 left_is LeftParenthesis n le lt = refl
-left_is RightParenthesis n le lt = absurd (omega arith)
-left_is Semicolon n le lt = absurd (omega arith)
-left_is LeftBrace n le lt = absurd (omega arith)
-left_is RightBrace n le lt = absurd (omega arith)
 left_is _ n le lt = absurd (omega arith)
 
 -- one token more before
@@ -59,11 +50,11 @@ pub none_shallow : (ts : List Lexeme) (n : ℕ) → n ≤ most_open → too_deep
 none_shallow [] n le e = shallow_none n le
 none_shallow (t ∷ ts) n le e =
     by_test (open_after n t.kind) (ShallowFrom n (t ∷ ts))
-    (λ deep is. absurd (some_none t.place (sym (ap (λ (b : Bool). cond b (Some t.place) (too_deep_from (open_after n t.kind) ts)) is) ∙ e)))
+    (λ deep is. absurd (none_some t.place (sym e ∙ ap (λ (b : Bool). cond b (Some t.place) (too_deep_from (open_after n t.kind) ts)) is)))
     (λ shallow is. shallow_more n t ts le (none_shallow ts (open_after n t.kind) shallow (sym (ap (λ (b : Bool). cond b (Some t.place) (too_deep_from (open_after n t.kind) ts)) is) ∙ e)))
 
 pub some_deep : (ts : List Lexeme) (n at : ℕ) → n ≤ most_open → too_deep_from n ts ≡ Some at → DeepFrom n ts at
-some_deep [] n at le e = absurd (some_none at (sym e))
+some_deep [] n at le e = absurd (none_some at e)
 some_deep (t ∷ ts) n at le e =
     by_test (open_after n t.kind) (DeepFrom n (t ∷ ts) at)
     (λ deep is. ([], t, ts, refl, left_is t.kind n le deep, same t.place at (sym (ap (λ (b : Bool). cond b (Some t.place) (too_deep_from (open_after n t.kind) ts)) is) ∙ e), shallow_none n le, deep))

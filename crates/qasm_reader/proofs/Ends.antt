@@ -1,6 +1,6 @@
 -- The signs with which parts end: a part has one of them as its last token, and none before. So where one stands among tokens
 -- that no part begins, none begins them whatever follows.
-use Rattle.std.proofs.Common.{◌≡◌, ◌⊎◌, inl, inr, ℕ, Bool, true, false, ◌||◌, List, [], ◌∷◌, ◌++◌, Option, None, Some, refl, sym, ap, ap₂, ◌∙◌, append_assoc, arith, length, length-append}
+use Rattle.std.proofs.Common.{◌≡◌, ◌⊎◌, inl, inr, ℕ, true, false, ◌||◌, List, [], ◌∷◌, ◌++◌, Option, None, Some, refl, sym, ap, ap₂, ◌∙◌, append_assoc, arith, length, length-append}
 use Rattle.std.specs.List.{list_any}
 use Rattle.std.proofs.lemmas.List.Folds.{list_any-append}
 use Rattle.qasm_lexer.specs.declared.token.TokenKind.{TokenKind}
@@ -13,19 +13,10 @@ use Rattle.qasm_reader.specs.Grammar.{◌⋅◌, Sign, Word, Repeated, IsCommaLi
 use Rattle.qasm_reader.specs.Parts.{ends_part, has_end}
 use Rattle.qasm_reader.specs.Internal.Taking.{Heading}
 use Rattle.qasm_reader.proofs.Statements.{IsOpening}
-use Rattle.qasm_reader.proofs.Steps.{Sound, each_function}
+use Rattle.qasm_reader.proofs.Steps.{Sound, each_function, not_none}
+use Rattle.std.proofs.lemmas.Bool.{both_ways, or_parts}
 
 -- ---- tests
-
-left_false : (a b : Bool) → (a || b) ≡ false → a ≡ false
-left_false true b e = absurd cc
-left_false false b e = refl
-
-true_false : (b : Bool) → b ≡ true → b ≡ false → ⊥
-true_false b e f = absurd (let h : ◌≡◌ {A = Bool} true false = sym e ∙ f in cc)
-
-some_none : {A : Type 0} (x : A) (o : Option A) → o ≡ Some x → o ≡ None → ⊥
-some_none {A = A} x o e f = absurd (let h : ◌≡◌ {A = Option A} (Some x) None = sym e ∙ f in cc)
 
 pub has_end-tokens : (ts : List Token) → has_end (lexemes ts) ≡ list_any (λ (t : Token). ends_part t.kind) ts
 has_end-tokens [] = refl
@@ -250,7 +241,7 @@ split [] ys (u ∷ us) vs e = inr (u, us, refl)
 split (x ∷ xs) ys (u ∷ us) vs e = split_more x u xs us (head_same x u (xs ++ ys) (us ++ vs) e) (split xs ys us vs (tail_same x u (xs ++ ys) (us ++ vs) e))
 
 front_free : (xs ys : List Lexeme) → has_end (xs ++ ys) ≡ false → has_end xs ≡ false
-front_free xs ys e = left_false (has_end xs) (has_end ys) (sym (list_any-append (λ t. ends_part t.kind) xs ys) ∙ e)
+front_free xs ys e = (or_parts (has_end xs) (has_end ys) (sym (list_any-append (λ t. ends_part t.kind) xs ys) ∙ e)).0
 
 longer : (front xs z z' : List Lexeme) (last t t' : Lexeme) → front ++ last ∷ [] ≡ xs ++ t ∷ z → xs ≡ front ++ t' ∷ z' → ⊥
 longer front xs z z' last t t' e f =
@@ -273,8 +264,8 @@ module _ {A : Type 0} (item : List Lexeme → Option (A × List Lexeme)) (Is : A
   reads_none : (a : A) (us rest : List Lexeme) → ts ++ more ≡ us ++ rest → Is a us → IsSplit ts us → ⊥
   reads_none a us rest e is (inl (z, p)) =
       let read : item ts ≡ Some (a, z) = ap item p ∙ complete a us z is in
-      some_none (a, z) (item ts) read none
-  reads_none a us rest e is (inr (t, z, p)) = true_false (has_end ts) end (before_last us ts z t p (once a us rest e is))
+      not_none (a, z) (item ts) read none
+  reads_none a us rest e is (inr (t, z, p)) = both_ways (has_end ts) (before_last us ts z t p (once a us rest e is)) end
 
   read_of : (o : Option (A × List Lexeme)) → item (ts ++ more) ≡ o → o ≡ None
   read_of None e = refl

@@ -5,7 +5,7 @@ use Rattle.qasm_lexer.specs.declared.token.TokenKind.TheVariants as kind
 use Rattle.qasm_lexer.specs.Tokens.{Lexeme}
 use Rattle.qasm_reader.specs.declared.expression.Function.{Function}
 use Rattle.qasm_reader.specs.declared.machine.Pending.{Pending}
-use Rattle.qasm_reader.specs.Syntax.{Formula, Number, Pi, Name, Negate, Binary, Call}
+use Rattle.qasm_reader.specs.Syntax.{Formula, Pi, Negate, Binary, Call}
 use Rattle.qasm_reader.specs.Postfix.{Entry, NegateEntry, BinaryEntry, CallEntry, postfix, push_entries, formula_of, first_or_pi, IsPostfix}
 use Rattle.qasm_reader.specs.Internal.Machine.{MachineState, start, operator_of, is_right, release, closed, step, run, go_on, on_operator, on_right, finished, all_out, followed_by, entries_at, as_formula, take_entries, take_expression}
 use Rattle.qasm_reader.specs.Grammar.{function_kind, IsExpression, OneTerm, Sum, Difference, IsTerm, OnePower, Product, Quotient, IsPower, OneFactor, ToThePower, IsFactor, Negative, RealNumber, WholeNumber, PiWord, Parameter, InParentheses, ValueOf}
@@ -17,9 +17,6 @@ use Rattle.qasm_reader.proofs.Steps.{Sound, each_function, Complete, Shrinks, sa
 -- ---- postfix order and back
 
 pub push_postfix : (f : Formula) (es : List Entry) (operands : List Formula) → push_entries (postfix f ++ es) operands ≡ push_entries es (f ∷ operands)
-push_postfix (Number text) es operands = refl
-push_postfix Pi es operands = refl
-push_postfix (Name name) es operands = refl
 push_postfix (Negate f) es operands =
     ap (λ (x : List Entry). push_entries x operands) (append_assoc (postfix f) (NegateEntry ∷ []) es) ∙ push_postfix f (NegateEntry ∷ es) operands
 push_postfix (Call function f) es operands =
@@ -28,6 +25,7 @@ push_postfix (Binary op f g) es operands =
     ap (λ (x : List Entry). push_entries x operands) (append_assoc (postfix f ++ postfix g) (BinaryEntry op ∷ []) es ∙ append_assoc (postfix f) (postfix g) (BinaryEntry op ∷ es))
     ∙ push_postfix f (postfix g ++ BinaryEntry op ∷ es) operands
     ∙ push_postfix g (BinaryEntry op ∷ es) (f ∷ operands)
+push_postfix _ es operands = refl
 
 pub formula_of_postfix : (f : Formula) → formula_of (postfix f) ≡ f
 formula_of_postfix f = ap (λ (x : List Entry). formula_of x) (sym (append-nil (postfix f))) ∙ ap first_or_pi (push_postfix f [] [])

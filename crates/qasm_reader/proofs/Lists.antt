@@ -5,7 +5,7 @@ use Rattle.qasm_lexer.specs.declared.token.TokenKind.TheVariants as kind
 use Rattle.qasm_lexer.specs.Tokens.{Lexeme}
 use Rattle.qasm_reader.specs.Grammar.{Sign, ◌⋅◌, Repeated, IsCommaList, IsOptionalList}
 use Rattle.qasm_reader.specs.Internal.Taking.{◌>>=◌, after, with_prefix, on_turn, turns, repeated, one_more, comma_turn, comma_items, comma_list, list_inside, list_after, optional_list}
-use Rattle.qasm_reader.proofs.Steps.{Took, took_then, Sound, Complete, Shrinks, same, bind_some, after_takes, after_again, after_shrinks, sign_last, item_then}
+use Rattle.qasm_reader.proofs.Steps.{Took, took_then, Sound, Complete, Shrinks, same, bind_some, after_takes, after_again, after_shrinks, sign_last, item_then, none_some}
 
 -- ---- turns
 
@@ -17,15 +17,13 @@ TurnShrinks {A = A} turn = (ts : List Lexeme) (a : A) (rest : List Lexeme) → t
 
 on_turn_agrees : {A : Type 0} (o : Option (Option (A × List Lexeme))) (ts : List Lexeme) (go go' : List Lexeme → Option (List A × List Lexeme))
     → ((a : A) (rest : List Lexeme) → o ≡ Some (Some (a, rest)) → go rest ≡ go' rest) → on_turn o ts go ≡ on_turn o ts go'
-on_turn_agrees None ts go go' h = refl
-on_turn_agrees (Some None) ts go go' h = refl
 on_turn_agrees (Some (Some x)) ts go go' h = ap (with_prefix (x.0 ∷ [])) (h x.0 x.1 refl)
+on_turn_agrees _ ts go go' h = refl
 
 turns_enough : {A : Type 0} (turn : Turn A) → TurnShrinks turn → (n m : ℕ) (ts : List Lexeme) → length ts < n → length ts < m → turns turn n ts ≡ turns turn m ts
-turns_enough turn s zero m ts p q = absurd (omega arith)
-turns_enough turn s (suc n) zero ts p q = absurd (omega arith)
 turns_enough turn s (suc n) (suc m) ts p q =
     on_turn_agrees (turn ts) ts (turns turn n) (turns turn m) (λ a rest e. turns_enough turn s n m rest (omega (arith, s ts a rest e)) (omega (arith, s ts a rest e)))
+turns_enough turn s _ _ ts p q = absurd (omega arith)
 
 pub repeated_is : {A : Type 0} (turn : Turn A) → TurnShrinks turn → (ts : List Lexeme) → repeated turn ts ≡ on_turn (turn ts) ts (repeated turn)
 unfolding repeated
@@ -116,14 +114,11 @@ pub one_more_some : {A : Type 0} (o : Option (A × List Lexeme)) (x : A × List 
 one_more_some None x e = absurd cc
 one_more_some (Some y) x e = ap Some (same y x (same (Some y) (Some x) e))
 
-none_not : {A : Type 0} {x : A} → ◌≡◌ {A = Option A} None (Some x) → ⊥
-none_not e = cc
-
 -- ---- lists with commas
 
 comma_turn_takes : {A : Type 0} (Is : A → List Lexeme → Type 0) (item : List Lexeme → Option (A × List Lexeme)) → Sound item Is
     → (o : Option (List Lexeme)) (ts : List Lexeme) (a : A) (rest : List Lexeme) → after kind.Comma ts ≡ o → comma_turn item o ≡ Some (Some (a, rest)) → Took (Sign kind.Comma ⋅ Is a) ts rest
-comma_turn_takes Is item sound None ts a rest is e = absurd (none_not (same None (Some (a, rest)) e))
+comma_turn_takes Is item sound None ts a rest is e = absurd (none_some (a, rest) (same None (Some (a, rest)) e))
 comma_turn_takes Is item sound (Some r) ts a rest is e =
     took_then (Sign kind.Comma) (Is a) ts r rest (after_takes kind.Comma ts r is) (sound r a rest (one_more_some (item r) (a, rest) e))
 
@@ -134,7 +129,7 @@ comma_items_take Is item sound =
 
 comma_turn_shrinks : {A : Type 0} (item : List Lexeme → Option (A × List Lexeme)) → Shrinks item
     → (o : Option (List Lexeme)) (ts : List Lexeme) (a : A) (rest : List Lexeme) → after kind.Comma ts ≡ o → comma_turn item o ≡ Some (Some (a, rest)) → length rest < length ts
-comma_turn_shrinks item s None ts a rest is e = absurd (none_not (same None (Some (a, rest)) e))
+comma_turn_shrinks item s None ts a rest is e = absurd (none_some (a, rest) (same None (Some (a, rest)) e))
 comma_turn_shrinks item s (Some r) ts a rest is e =
     omega (arith, after_shrinks kind.Comma ts r is, s r a rest (one_more_some (item r) (a, rest) e))
 

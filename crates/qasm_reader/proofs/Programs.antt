@@ -5,7 +5,7 @@ use Rattle.qasm_lexer.specs.Tokens.{Lexeme}
 use Rattle.qasm_reader.specs.Syntax.{Sentence, Placed}
 use Rattle.qasm_reader.specs.Grammar.{IsStatement, BeginsAt, IsProgram, IsFirstStatement, BeginsWithStatement, IsSyntaxFault}
 use Rattle.qasm_reader.specs.Internal.Taking.{statement}
-use Rattle.qasm_reader.proofs.Steps.{same}
+use Rattle.qasm_reader.proofs.Steps.{same, none_some}
 use Rattle.qasm_reader.proofs.Statements.{statement_takes, statement_again}
 
 -- ---- no statement begins another
@@ -121,9 +121,6 @@ prefix_more all rest end statements s t more f is e =
       f.1 ∙ ap (λ (x : List Lexeme). f.0 ++ x) took.1 ∙ sym (append_assoc f.0 took.0 end),
       snoc f.0 took.0 statements (record { place = t.place; sentence = s }) f.2 (some_begin took.0 end t more (sym is ∙ took.1) (some_statement s took.0 took.2)) took.2,
     )
-
-none_some : {A : Type 0} (x : A) → ◌≡◌ {A = Option A} None (Some x) → ⊥
-none_some x e = cc
 
 pub prefix_fault : (all rest : List Lexeme) (statements : List Placed) (t : Lexeme) (more : List Lexeme) → IsProgramPrefix all rest statements → rest ≡ t ∷ more → statement rest ≡ None → IsSyntaxFault all t.place
 prefix_fault all rest statements t more f is e =

@@ -17,6 +17,7 @@ use Rattle.qasm_reader.specs.Postfix.{Entry, NegateEntry, BinaryEntry, CallEntry
 use Rattle.qasm_reader.specs.Internal.Machine.{MachineState, Move, start, operand_of, prefix_of, function_of, operator_of, is_left, is_right, strength, bound, released, release, closed, step, step_by, run, go_on, on_operand, on_prefix, on_function, on_operator, on_left, on_right, finished, finished_by, all_out, followed_by, take_entries}
 use Rattle.qasm_reader.specs.Grammar.{function_kind, IsExpression, OneTerm, Sum, Difference, IsTerm, OnePower, Product, Quotient, IsPower, OneFactor, ToThePower, IsFactor, Negative, RealNumber, WholeNumber, PiWord, Parameter, InParentheses, ValueOf}
 use Rattle.qasm_reader.proofs.Completing.{operand, operator}
+use Rattle.qasm_reader.proofs.Steps.{same}
 
 -- ---- levels of the grammar
 
@@ -38,35 +39,27 @@ IsAt Terms = IsTerm
 IsAt Powers = IsPower
 IsAt Factors = IsFactor
 
-as_power : (l : Level) (f : Formula) (us : List Lexeme) → 3 ≤ rank l → IsAt l f us → IsPower f us
-as_power Expressions f us le d = absurd (omega arith)
-as_power Terms f us le d = absurd (omega arith)
-as_power Powers f us le d = d
-as_power Factors f us le d = OneFactor d
+-- what is at a level is at each level that asks for no more
+as_at : (l m : Level) (f : Formula) (us : List Lexeme) → rank m ≤ rank l → IsAt l f us → IsAt m f us
+as_at Expressions Expressions f us le d = d
+as_at Terms Expressions f us le d = OneTerm d
+as_at Terms Terms f us le d = d
+as_at Powers Expressions f us le d = OneTerm (OnePower d)
+as_at Powers Terms f us le d = OnePower d
+as_at Powers Powers f us le d = d
+as_at Factors Expressions f us le d = OneTerm (OnePower (OneFactor d))
+as_at Factors Terms f us le d = OnePower (OneFactor d)
+as_at Factors Powers f us le d = OneFactor d
+as_at Factors Factors f us le d = d
+as_at _ _ f us le d = absurd (omega arith)
 
-as_term : (l : Level) (f : Formula) (us : List Lexeme) → 2 ≤ rank l → IsAt l f us → IsTerm f us
-as_term Expressions f us le d = absurd (omega arith)
-as_term Terms f us le d = d
-as_term Powers f us le d = OnePower d
-as_term Factors f us le d = OnePower (OneFactor d)
-
-as_expression : (l : Level) (f : Formula) (us : List Lexeme) → IsAt l f us → IsExpression f us
-as_expression Expressions f us d = d
-as_expression Terms f us d = OneTerm d
-as_expression Powers f us d = OneTerm (OnePower d)
-as_expression Factors f us d = OneTerm (OnePower (OneFactor d))
-
-as_factor : (l : Level) (f : Formula) (us : List Lexeme) → 4 ≤ rank l → IsAt l f us → IsFactor f us
-as_factor Expressions f us le d = absurd (omega arith)
-as_factor Terms f us le d = absurd (omega arith)
-as_factor Powers f us le d = absurd (omega arith)
-as_factor Factors f us le d = d
+at_least_1 : (l : Level) → 1 ≤ rank l
+at_least_1 Expressions = lit≤ tt
+at_least_1 _ = lit≤ tt
 
 below_4 : (l : Level) → rank l ≤ 4
 below_4 Expressions = lit≤ tt
-below_4 Terms = lit≤ tt
-below_4 Powers = lit≤ tt
-below_4 Factors = lit≤ tt
+below_4 _ = lit≤ tt
 
 -- the level of an operator's left operand, of its right one and of the whole
 abbrev left_of : Operator → Level
@@ -79,9 +72,7 @@ left_of Power = Factors
 abbrev right_of : Operator → Level
 right_of Add = Terms
 right_of Subtract = Terms
-right_of Multiply = Powers
-right_of Divide = Powers
-right_of Power = Powers
+right_of _ = Powers
 
 abbrev whole_of : Operator → Level
 whole_of Add = Expressions
@@ -91,25 +82,12 @@ whole_of Divide = Terms
 whole_of Power = Powers
 
 whole_rank : (op : Operator) → rank (whole_of op) ≡ strength op
-whole_rank Add = refl
-whole_rank Subtract = refl
 whole_rank Multiply = refl
-whole_rank Divide = refl
-whole_rank Power = refl
+whole_rank _ = refl
 
-as_left : (op : Operator) (l : Level) (f : Formula) (us : List Lexeme) → bound op ≤ rank l → IsAt l f us → IsAt (left_of op) f us
-as_left Add l f us le d = as_expression l f us d
-as_left Subtract l f us le d = as_expression l f us d
-as_left Multiply l f us le d = as_term l f us le d
-as_left Divide l f us le d = as_term l f us le d
-as_left Power l f us le d = as_factor l f us le d
-
-as_right : (op : Operator) (l : Level) (f : Formula) (us : List Lexeme) → rank (right_of op) ≤ rank l → IsAt l f us → IsAt (right_of op) f us
-as_right Add l f us le d = as_term l f us le d
-as_right Subtract l f us le d = as_term l f us le d
-as_right Multiply l f us le d = as_power l f us le d
-as_right Divide l f us le d = as_power l f us le d
-as_right Power l f us le d = as_power l f us le d
+left_rank : (op : Operator) → rank (left_of op) ≡ bound op
+left_rank Multiply = refl
+left_rank _ = refl
 
 abbrev operator_kind : Operator → TokenKind
 operator_kind Add = kind.Plus
@@ -126,9 +104,6 @@ joined Divide f g us vs t is d e = Quotient t d is e
 joined Power f g us vs t is d e = ToThePower t d is e
 
 -- ---- kinds
-
-same : {A : Type 0} (x y : A) → ◌≡◌ {A = Option A} (Some x) (Some y) → x ≡ y
-same x y e = cc
 
 operator_is : (k : TokenKind) (op : Operator) → operator_of k ≡ Some op → k ≡ operator_kind op
 operator_is kind.Plus op e = ap operator_kind (same Add op e)
@@ -159,18 +134,13 @@ right_is _ e = absurd cc
 
 -- the level of operand that the last that waits asks for
 abbrev demands : List Pending → ℕ
-demands [] = 1
 demands (pending.Negate ∷ ps) = 4
 demands (pending.Binary op ∷ ps) = rank (right_of op)
-demands (pending.Parenthesis ∷ ps) = 1
-demands (pending.Call f ∷ ps) = 1
+demands _ = 1
 
 demands_4 : (ps : List Pending) → demands ps ≤ 4
-demands_4 [] = lit≤ tt
-demands_4 (pending.Negate ∷ ps) = lit≤ tt
 demands_4 (pending.Binary op ∷ ps) = below_4 (right_of op)
-demands_4 (pending.Parenthesis ∷ ps) = lit≤ tt
-demands_4 (pending.Call f ∷ ps) = lit≤ tt
+demands_4 _ = lit≤ tt
 
 -- an operand is awaited after these tokens, with these entries put out
 abbrev Waits : List Pending → List Lexeme → List Entry → Type 0
@@ -206,7 +176,7 @@ negated us output ps l h =
       formula = Negate h.formula;
       tokens = h.tokens ∙ ap (λ (x : List Lexeme). x ++ h.own) w.2 ∙ append_assoc w.0 (w.1 ∷ []) h.own;
       entries = ap (λ (x : List Entry). x ++ NegateEntry ∷ []) h.entries ∙ append_assoc h.outer (postfix h.formula) (NegateEntry ∷ []);
-      derived = Negative w.1 w.3 (as_factor l h.formula h.own h.allowed h.derived);
+      derived = Negative w.1 w.3 (as_at l Factors h.formula h.own h.allowed h.derived);
       allowed = demands_4 ps;
       waits = w.4;
     }
@@ -227,7 +197,7 @@ applied op us output ps l h =
       formula = Binary op w.4 h.formula;
       tokens = h.tokens ∙ ap (λ (x : List Lexeme). x ++ h.own) w.5 ∙ regroup_tokens w.0 w.1 w.2 h.own;
       entries = ap (λ (x : List Entry). x ++ BinaryEntry op ∷ []) h.entries ∙ ap (λ (x : List Entry). (x ++ postfix h.formula) ++ BinaryEntry op ∷ []) w.6 ∙ regroup_entries w.3 (postfix w.4) (postfix h.formula) (BinaryEntry op);
-      derived = joined op w.4 h.formula w.1 h.own w.2 w.7 w.8 (as_right op l h.formula h.own h.allowed h.derived);
+      derived = joined op w.4 h.formula w.1 h.own w.2 w.7 w.8 (as_at l (right_of op) h.formula h.own h.allowed h.derived);
       allowed = omega (arith, whole_rank op, w.9);
       waits = w.10;
     }
@@ -256,8 +226,7 @@ releases (pending.Negate ∷ ps) b us output l le h =
     releases ps b us (output ++ NegateEntry ∷ []) Factors (omega (arith, below_4 l)) (negated us output ps l h)
 releases (pending.Binary op ∷ ps) b us output l le h =
     release_binary op b us output ps l le h (λ h' le'. releases ps b us (output ++ BinaryEntry op ∷ []) (whole_of op) (omega (arith, whole_rank op)) h') (leb b (strength op)) refl
-releases (pending.Parenthesis ∷ ps) b us output l le h = record { level = l; strong = le; holds = h; stops = refl }
-releases (pending.Call f ∷ ps) b us output l le h = record { level = l; strong = le; holds = h; stops = refl }
+releases _ b us output l le h = record { level = l; strong = le; holds = h; stops = refl }
 
 -- ---- states
 
@@ -278,9 +247,8 @@ Ended (awaited.Parenthesis f) us output ps = Unit {0}
 Ended awaited.Operator us output ps = Whole us output ps
 
 good_ended : (a : Awaited) (us : List Lexeme) (output : List Entry) (ps : List Pending) → Good a us output ps → Ended a us output ps
-good_ended awaited.Operand us output ps g = tt
-good_ended (awaited.Parenthesis f) us output ps g = tt
 good_ended awaited.Operator us output ps g = (Factors, g)
+good_ended _ us output ps g = tt
 
 abbrev After : Move → List Lexeme → Lexeme → Type 0
 After (true, s) us t = Good s.awaited (us ++ t ∷ []) s.output s.pending
@@ -333,47 +301,25 @@ left_reads true f t us output ps is g =
 
 -- ---- steps where an operator is awaited
 
-at_least_1 : (op : Operator) → 1 ≤ strength op
-at_least_1 Add = lit≤ tt
-at_least_1 Subtract = lit≤ tt
-at_least_1 Multiply = lit≤ tt
-at_least_1 Divide = lit≤ tt
-at_least_1 Power = lit≤ tt
-
 stop_binary : (op o : Operator) → released (bound op) (pending.Binary o) ≡ None → rank (right_of o) ≤ strength op
-stop_binary Add Add s = absurd cc
-stop_binary Add Subtract s = absurd cc
-stop_binary Add Multiply s = absurd cc
-stop_binary Add Divide s = absurd cc
 stop_binary Add Power s = absurd cc
-stop_binary Subtract Add s = absurd cc
-stop_binary Subtract Subtract s = absurd cc
-stop_binary Subtract Multiply s = absurd cc
-stop_binary Subtract Divide s = absurd cc
 stop_binary Subtract Power s = absurd cc
 stop_binary Multiply Add s = lit≤ tt
 stop_binary Multiply Subtract s = lit≤ tt
-stop_binary Multiply Multiply s = absurd cc
-stop_binary Multiply Divide s = absurd cc
-stop_binary Multiply Power s = absurd cc
 stop_binary Divide Add s = lit≤ tt
 stop_binary Divide Subtract s = lit≤ tt
-stop_binary Divide Multiply s = absurd cc
-stop_binary Divide Divide s = absurd cc
-stop_binary Divide Power s = absurd cc
 stop_binary Power Add s = lit≤ tt
 stop_binary Power Subtract s = lit≤ tt
 stop_binary Power Multiply s = lit≤ tt
 stop_binary Power Divide s = lit≤ tt
 stop_binary Power Power s = lit≤ tt
+stop_binary _ _ s = absurd cc
 
 -- what stops a release before an operator allows the operator's whole
 stop_demands : (op : Operator) (ps : List Pending) → Stops (bound op) ps → demands ps ≤ strength op
-stop_demands op [] s = at_least_1 op
 stop_demands op (pending.Negate ∷ ps) s = absurd cc
 stop_demands op (pending.Binary o ∷ ps) s = stop_binary op o s
-stop_demands op (pending.Parenthesis ∷ ps) s = at_least_1 op
-stop_demands op (pending.Call f ∷ ps) s = at_least_1 op
+stop_demands op _ s = omega (arith, whole_rank op, at_least_1 (whole_of op))
 
 operator_waits : (op : Operator) (t : Lexeme) (us : List Lexeme) (output : List Entry) (ps : List Pending) → operator_of t.kind ≡ Some op → Released (bound op) us (output, ps)
     → Waits (pending.Binary op ∷ ps) (us ++ t ∷ []) output
@@ -387,7 +333,7 @@ operator_waits op t us output ps is r =
       ap (λ (x : List Lexeme). x ++ t ∷ []) h.tokens ∙ append_assoc h.before h.own (t ∷ []),
       h.entries,
       operator_is t.kind op is,
-      as_left op r.level h.formula h.own r.strong h.derived,
+      as_at r.level (left_of op) h.formula h.own (omega (arith, left_rank op, r.strong)) h.derived,
       stop_demands op ps r.stops,
       h.waits,
     )
@@ -399,9 +345,6 @@ regroup_call : (a : List Lexeme) (n l : Lexeme) (b : List Lexeme) (t : Lexeme) �
 regroup_call a n l b t = simp append_assoc
 
 closed_reads : (output : List Entry) (ps : List Pending) (t : Lexeme) (us : List Lexeme) → t.kind ≡ kind.RightParenthesis → Released 1 us (output, ps) → After (closed (output, ps)) us t
-closed_reads output [] t us is r = (r.level, r.holds)
-closed_reads output (pending.Negate ∷ ps) t us is r = (r.level, r.holds)
-closed_reads output (pending.Binary op ∷ ps) t us is r = (r.level, r.holds)
 closed_reads output (pending.Parenthesis ∷ ps) t us is r =
     let h = r.holds in
     let w = h.waits in
@@ -412,7 +355,7 @@ closed_reads output (pending.Parenthesis ∷ ps) t us is r =
       formula = h.formula;
       tokens = ap (λ (x : List Lexeme). x ++ t ∷ []) (h.tokens ∙ ap (λ (x : List Lexeme). x ++ h.own) w.2) ∙ regroup_right w.0 w.1 h.own t;
       entries = h.entries;
-      derived = InParentheses w.1 t w.3 (as_expression r.level h.formula h.own h.derived) is;
+      derived = InParentheses w.1 t w.3 (as_at r.level Expressions h.formula h.own (at_least_1 r.level) h.derived) is;
       allowed = demands_4 ps;
       waits = w.4;
     }
@@ -426,10 +369,11 @@ closed_reads output (pending.Call f ∷ ps) t us is r =
       formula = Call f h.formula;
       tokens = ap (λ (x : List Lexeme). x ++ t ∷ []) (h.tokens ∙ ap (λ (x : List Lexeme). x ++ h.own) w.3) ∙ regroup_call w.0 w.1 w.2 h.own t;
       entries = ap (λ (x : List Entry). x ++ CallEntry f ∷ []) h.entries ∙ append_assoc h.outer (postfix h.formula) (CallEntry f ∷ []);
-      derived = ValueOf f w.1 w.2 t w.4 w.5 (as_expression r.level h.formula h.own h.derived) is;
+      derived = ValueOf f w.1 w.2 t w.4 w.5 (as_at r.level Expressions h.formula h.own (at_least_1 r.level) h.derived) is;
       allowed = demands_4 ps;
       waits = w.6;
     }
+closed_reads output _ t us is r = (r.level, r.holds)
 
 right_reads : (b : Bool) (t : Lexeme) (us : List Lexeme) (output : List Entry) (ps : List Pending) → is_right t.kind ≡ b → Holds Factors us output ps → After (on_right b (operator output ps)) us t
 right_reads false t us output ps is h = (Factors, h)
@@ -437,18 +381,11 @@ right_reads true t us output ps is h =
     let r = release 1 output ps in
     closed_reads r.0 r.1 t us (right_is t.kind is) (releases ps 1 us output Factors (lit≤ tt) h)
 
-bound_4 : (op : Operator) → bound op ≤ 4
-bound_4 Add = lit≤ tt
-bound_4 Subtract = lit≤ tt
-bound_4 Multiply = lit≤ tt
-bound_4 Divide = lit≤ tt
-bound_4 Power = lit≤ tt
-
 operator_reads : (o : Option Operator) (t : Lexeme) (us : List Lexeme) (output : List Entry) (ps : List Pending) → operator_of t.kind ≡ o → Holds Factors us output ps → After (on_operator o t.kind (operator output ps)) us t
 operator_reads None t us output ps is h = right_reads (is_right t.kind) t us output ps refl h
 operator_reads (Some op) t us output ps is h =
     let r = release (bound op) output ps in
-    operator_waits op t us r.0 r.1 is (releases ps (bound op) us output Factors (bound_4 op) h)
+    operator_waits op t us r.0 r.1 is (releases ps (bound op) us output Factors (omega (arith, left_rank op, below_4 (left_of op))) h)
 
 -- ---- whole runs
 
@@ -484,21 +421,14 @@ whole_is us es r =
     let h = r.holds in
     let tokens : h.own ≡ us = sym (h.tokens ∙ ap (λ (x : List Lexeme). x ++ h.own) h.waits.0) in (
       h.formula,
-      subst (IsExpression h.formula) tokens (as_expression r.level h.formula h.own h.derived),
+      subst (IsExpression h.formula) tokens (as_at r.level Expressions h.formula h.own (at_least_1 r.level) h.derived),
       h.entries ∙ ap (λ (x : List Entry). x ++ postfix h.formula) h.waits.1,
     )
 
-at_least_expression : (l : Level) → 1 ≤ rank l
-at_least_expression Expressions = lit≤ tt
-at_least_expression Terms = lit≤ tt
-at_least_expression Powers = lit≤ tt
-at_least_expression Factors = lit≤ tt
-
 finished_is : (a : Awaited) (us : List Lexeme) (output : List Entry) (ps : List Pending) (es : List Entry) → Ended a us output ps → finished_by a output ps ≡ Some es → (f : Formula) × IsExpression f us × (es ≡ postfix f)
-finished_is awaited.Operand us output ps es g e = absurd cc
-finished_is (awaited.Parenthesis f) us output ps es g e = absurd cc
 finished_is awaited.Operator us output ps es g e =
-    whole_is us es (subst (Released 1 us) (all_out_is (release 1 output ps) es e) (releases ps 1 us output g.0 (at_least_expression g.0) g.1))
+    whole_is us es (subst (Released 1 us) (all_out_is (release 1 output ps) es e) (releases ps 1 us output g.0 (at_least_1 g.0) g.1))
+finished_is _ us output ps es g e = absurd cc
 
 followed_is : (o : Option (List Entry)) (rest : List Lexeme) (es : List Entry) (r : List Lexeme) → followed_by o rest ≡ Some (es, r) → (o ≡ Some es) × (rest ≡ r)
 followed_is None rest es r e = absurd cc

@@ -3,12 +3,12 @@ use Rattle.std.proofs.Common.{◌≡◌, ℕ, ◌<◌, false, List, [], ◌∷�
 use Rattle.qasm_lexer.specs.declared.token.TokenKind.{TokenKind}
 use Rattle.qasm_lexer.specs.declared.token.TokenKind.TheVariants as kind
 use Rattle.qasm_lexer.specs.Tokens.{Lexeme}
-use Rattle.qasm_reader.specs.Syntax.{Operand, Callee, Declared, U, Cx, Apply, Action, Applied, Measured, Reset, BodyApply, BodySentence, BodyApplied, BodyBarrier, GateForm, Sentence, Version, Include, QubitRegister, BitRegister, DeclareGate, Opaque, If, Barrier, Act}
+use Rattle.qasm_reader.specs.Syntax.{Formula, Operand, Callee, Declared, U, Cx, Apply, Action, Applied, Measured, Reset, BodyApply, BodySentence, BodyApplied, BodyBarrier, GateForm, Sentence, Version, Include, QubitRegister, BitRegister, DeclareGate, Opaque, If, Barrier, Act}
 use Rattle.qasm_reader.specs.Grammar.{Sign, Word, ◌⋅◌, Repeated, IsCommaList, IsExpression, IsIdentifier, IsNatural, IsName, IsIndex, IsArgument, IsArguments, IsIdentifiers, IsAngles, IsParameters, IsQuantumOperation, IsBodyStatement, IsStatement}
 use Rattle.qasm_reader.specs.Parts.{IsHeading}
 use Rattle.qasm_reader.specs.Internal.Machine.{operator_of, take_expression}
-use Rattle.qasm_reader.specs.Internal.Taking.{◌>>=◌, same_kind, after, text, with_prefix, on_turn, one_more, comma_list, identifier, natural, identifiers, parameters, callee_of, gate_name, index_after, argument, arguments, angles, application, measure, reset, operation_by, operation, body_application, body_by, body_statement, body_turn, body, version, include, register, qubit_register, bit_register, Heading, heading, opening, gate, opaque, condition, conditional, barrier, act, statement_by, statement}
-use Rattle.qasm_reader.proofs.Steps.{Took, took_then, deeper, Sound, Complete, Shrinks, same, bind_some, bind_is, bind_none, after_takes, after_again, after_other, text_takes, text_again, text_shrinks, sign_then, sign_last, item_then, sign_took, Opened, opened, sign_begins, word_begins, then_begins}
+use Rattle.qasm_reader.specs.Internal.Taking.{◌>>=◌, same_kind, after, text, with_prefix, on_turn, one_more, comma_list, identifier, natural, identifiers, parameters, callee_of, gate_name, index_after, argument, arguments, angles, application, measure, reset, operation_by, operation, body_application, body_by, body_statement, body_turn, body, version, include, register, qubit_register, bit_register, Heading, heading, opening, gate, opaque, condition, conditional, barrier, act, statement_by, statement, one, apply}
+use Rattle.qasm_reader.proofs.Steps.{Took, took_then, deeper, Sound, Complete, Shrinks, same, bind_some, bind_is, bind_none, after_takes, after_again, after_other, text_takes, text_again, text_shrinks, sign_then, sign_last, item_then, sign_took, Opened, opened, sign_begins, word_begins, then_begins, none_some}
 use Rattle.qasm_reader.proofs.Lists.{EndsList, EndsOptional, comma_list_takes, comma_list_again, optional_list_takes, optional_list_again, repeated_takes, repeated_goes_on, repeated_is, one_more_some, list_begins, TurnShrinks}
 use Rattle.qasm_reader.proofs.Expressions.{expression_takes, expression_again, expression_begins, expression_shrinks, EndsExpression}
 
@@ -190,18 +190,37 @@ arguments_end xs Back us rest s =
 
 -- ---- operations
 
+-- a sign, an item and a semicolon
+one_takes : {A B : Type 0} (item : List Lexeme → Option (A × List Lexeme)) (Is : A → List Lexeme → Type 0) → Sound item Is → (k : TokenKind) (make : A → B) (Whole : B → List Lexeme → Type 0)
+    → ((a : A) (us : List Lexeme) → (Sign k ⋅ Is a ⋅ Sign kind.Semicolon) us → Whole (make a) us) → (before ts : List Lexeme) (b : B) (rest : List Lexeme) → Took (Sign k) before ts
+    → one item make ts ≡ Some (b, rest) → Took (Whole b) before rest
+one_takes {B = B} item Is sound k make Whole whole before ts b rest first e =
+    let x = bind_some (item ts) _ (b, rest) e in
+    let s = bind_some (after kind.Semicolon x.0.1) _ (b, rest) x.2 in
+    let p = same (make x.0.0, s.0) (b, rest) s.2 in
+    let t = took_then (Sign k) (Is x.0.0 ⋅ Sign kind.Semicolon) before ts s.0 first
+    (took_then (Is x.0.0) (Sign kind.Semicolon) ts x.0.1 s.0 (sound ts x.0.0 x.0.1 x.1) (after_takes kind.Semicolon x.0.1 s.0 s.1)) in
+    subst (λ (y : B × List Lexeme). Took (Whole y.0) before y.1) p (t.0, t.1, whole x.0.0 t.0 t.2)
+
+-- a gate, its angles, its qubits and a semicolon
+apply_takes : {Q B : Type 0} (qubits : List Lexeme → Option (Q × List Lexeme)) (AreQubits : Q → List Lexeme → Type 0) → Sound qubits AreQubits → (make : Callee → List Formula → Q → B)
+    (Whole : B → List Lexeme → Type 0) → ((c : Callee) (fs : List Formula) (q : Q) (us : List Lexeme) → (IsName c ⋅ IsAngles fs ⋅ AreQubits q ⋅ Sign kind.Semicolon) us → Whole (make c fs q) us)
+    → (ts : List Lexeme) (b : B) (rest : List Lexeme) → apply qubits make ts ≡ Some (b, rest) → Took (Whole b) ts rest
+apply_takes {B = B} qubits AreQubits sound make Whole whole ts b rest e =
+    let g = bind_some (gate_name ts) _ (b, rest) e in
+    let x = bind_some (angles g.0.1) _ (b, rest) g.2 in
+    let q = bind_some (qubits x.0.1) _ (b, rest) x.2 in
+    let s = bind_some (after kind.Semicolon q.0.1) _ (b, rest) q.2 in
+    let p = same (make g.0.0 x.0.0 q.0.0, s.0) (b, rest) s.2 in
+    let t = took_then (IsName g.0.0) (IsAngles x.0.0 ⋅ AreQubits q.0.0 ⋅ Sign kind.Semicolon) ts g.0.1 s.0 (gate_name_takes ts g.0.0 g.0.1 g.1)
+    (took_then (IsAngles x.0.0) (AreQubits q.0.0 ⋅ Sign kind.Semicolon) g.0.1 x.0.1 s.0 (angles_take g.0.1 x.0.0 x.0.1 x.1)
+    (took_then (AreQubits q.0.0) (Sign kind.Semicolon) x.0.1 q.0.1 s.0 (sound x.0.1 q.0.0 q.0.1 q.1) (after_takes kind.Semicolon q.0.1 s.0 s.1))) in
+    subst (λ (y : B × List Lexeme). Took (Whole y.0) ts y.1) p (t.0, t.1, whole g.0.0 x.0.0 q.0.0 t.0 t.2)
+
 application_takes : (ts : List Lexeme) (a : Action) (rest : List Lexeme) → application ts ≡ Some (a, rest) → Took (IsQuantumOperation a) ts rest
 unfolding application
 application_takes ts a rest e =
-    let g = bind_some (gate_name ts) _ (a, rest) e in
-    let x = bind_some (angles g.0.1) _ (a, rest) g.2 in
-    let q = bind_some (arguments x.0.1) _ (a, rest) x.2 in
-    let s = bind_some (after kind.Semicolon q.0.1) _ (a, rest) q.2 in
-    let p = same (Applied (record { gate = g.0.0; angles = x.0.0; qubits = q.0.0 }), s.0) (a, rest) s.2 in
-    subst (λ (y : Action × List Lexeme). Took (IsQuantumOperation y.0) ts y.1) p
-    (took_then (IsName g.0.0) (IsAngles x.0.0 ⋅ IsArguments q.0.0 ⋅ Sign kind.Semicolon) ts g.0.1 s.0 (gate_name_takes ts g.0.0 g.0.1 g.1)
-    (took_then (IsAngles x.0.0) (IsArguments q.0.0 ⋅ Sign kind.Semicolon) g.0.1 x.0.1 s.0 (angles_take g.0.1 x.0.0 x.0.1 x.1)
-    (took_then (IsArguments q.0.0) (Sign kind.Semicolon) x.0.1 q.0.1 s.0 (arguments_take x.0.1 q.0.0 q.0.1 q.1) (after_takes kind.Semicolon q.0.1 s.0 s.1))))
+    apply_takes arguments IsArguments arguments_take (λ c fs q. Applied (record { gate = c; angles = fs; qubits = q })) IsQuantumOperation (λ c fs q us w. w) ts a rest e
 
 measure_takes : (t : Lexeme) (ts : List Lexeme) (a : Action) (rest : List Lexeme) → t.kind ≡ kind.Measure → measure ts ≡ Some (a, rest) → Took (IsQuantumOperation a) (t ∷ ts) rest
 unfolding measure
@@ -220,12 +239,7 @@ measure_takes t ts a rest is e =
 reset_takes : (t : Lexeme) (ts : List Lexeme) (a : Action) (rest : List Lexeme) → t.kind ≡ kind.Reset → reset ts ≡ Some (a, rest) → Took (IsQuantumOperation a) (t ∷ ts) rest
 unfolding reset
 reset_takes t ts a rest is e =
-    let x = bind_some (argument ts) _ (a, rest) e in
-    let s = bind_some (after kind.Semicolon x.0.1) _ (a, rest) x.2 in
-    let p = same (Reset x.0.0, s.0) (a, rest) s.2 in
-    subst (λ (z : Action × List Lexeme). Took (IsQuantumOperation z.0) (t ∷ ts) z.1) p
-    (took_then (Sign kind.Reset) (IsArgument x.0.0 ⋅ Sign kind.Semicolon) (t ∷ ts) ts s.0 (sign_took kind.Reset t ts is)
-    (took_then (IsArgument x.0.0) (Sign kind.Semicolon) ts x.0.1 s.0 (argument_takes ts x.0.0 x.0.1 x.1) (after_takes kind.Semicolon x.0.1 s.0 s.1)))
+    one_takes argument IsArgument argument_takes kind.Reset Reset IsQuantumOperation (λ a us w. w) (t ∷ ts) ts a rest (sign_took kind.Reset t ts is) e
 
 operation_by_takes : (k : TokenKind) (t : Lexeme) (ts : List Lexeme) (a : Action) (rest : List Lexeme) → t.kind ≡ k → operation_by k ts (t ∷ ts) ≡ Some (a, rest) → Took (IsQuantumOperation a) (t ∷ ts) rest
 operation_by_takes kind.Measure t ts a rest is e = measure_takes t ts a rest is e
@@ -283,8 +297,7 @@ reset_again x us rest h =
 name_operation : (c : Callee) (t : Lexeme) (ts : List Lexeme) → t.kind ≡ kind_of_name c → operation (t ∷ ts) ≡ application (t ∷ ts)
 unfolding operation
 name_operation (Declared name) t ts is = ap (λ (k : TokenKind). operation_by k ts (t ∷ ts)) is
-name_operation U t ts is = ap (λ (k : TokenKind). operation_by k ts (t ∷ ts)) is
-name_operation Cx t ts is = ap (λ (k : TokenKind). operation_by k ts (t ∷ ts)) is
+name_operation _ t ts is = ap (λ (k : TokenKind). operation_by k ts (t ∷ ts)) is
 
 -- the first token of what begins with a name
 named : (c : Callee) (Back : List Lexeme → Type 0) (us rest : List Lexeme) (s : (IsName c ⋅ Back) us) → Opened (kind_of_name c) (us ++ rest) (s.1 ++ rest)
@@ -317,25 +330,12 @@ operation_again (Reset x) us rest h ends =
 body_application_takes : (ts : List Lexeme) (a : BodySentence) (rest : List Lexeme) → body_application ts ≡ Some (a, rest) → Took (IsBodyStatement a) ts rest
 unfolding body_application
 body_application_takes ts a rest e =
-    let g = bind_some (gate_name ts) _ (a, rest) e in
-    let x = bind_some (angles g.0.1) _ (a, rest) g.2 in
-    let q = bind_some (identifiers x.0.1) _ (a, rest) x.2 in
-    let s = bind_some (after kind.Semicolon q.0.1) _ (a, rest) q.2 in
-    let p = same (BodyApplied (record { gate = g.0.0; angles = x.0.0; qubits = q.0.0 }), s.0) (a, rest) s.2 in
-    subst (λ (y : BodySentence × List Lexeme). Took (IsBodyStatement y.0) ts y.1) p
-    (took_then (IsName g.0.0) (IsAngles x.0.0 ⋅ IsIdentifiers q.0.0 ⋅ Sign kind.Semicolon) ts g.0.1 s.0 (gate_name_takes ts g.0.0 g.0.1 g.1)
-    (took_then (IsAngles x.0.0) (IsIdentifiers q.0.0 ⋅ Sign kind.Semicolon) g.0.1 x.0.1 s.0 (angles_take g.0.1 x.0.0 x.0.1 x.1)
-    (took_then (IsIdentifiers q.0.0) (Sign kind.Semicolon) x.0.1 q.0.1 s.0 (identifiers_take x.0.1 q.0.0 q.0.1 q.1) (after_takes kind.Semicolon q.0.1 s.0 s.1))))
+    apply_takes identifiers IsIdentifiers identifiers_take (λ c fs q. BodyApplied (record { gate = c; angles = fs; qubits = q })) IsBodyStatement (λ c fs q us w. w) ts a rest e
 
 body_by_takes : (o : Option (List Lexeme)) (ts : List Lexeme) (a : BodySentence) (rest : List Lexeme) → after kind.Barrier ts ≡ o → body_by o ts ≡ Some (a, rest) → Took (IsBodyStatement a) ts rest
 body_by_takes None ts a rest is e = body_application_takes ts a rest e
 body_by_takes (Some r) ts a rest is e =
-    let x = bind_some (identifiers r) _ (a, rest) e in
-    let s = bind_some (after kind.Semicolon x.0.1) _ (a, rest) x.2 in
-    let p = same (BodyBarrier x.0.0, s.0) (a, rest) s.2 in
-    subst (λ (y : BodySentence × List Lexeme). Took (IsBodyStatement y.0) ts y.1) p
-    (took_then (Sign kind.Barrier) (IsIdentifiers x.0.0 ⋅ Sign kind.Semicolon) ts r s.0 (after_takes kind.Barrier ts r is)
-    (took_then (IsIdentifiers x.0.0) (Sign kind.Semicolon) r x.0.1 s.0 (identifiers_take r x.0.0 x.0.1 x.1) (after_takes kind.Semicolon x.0.1 s.0 s.1)))
+    one_takes identifiers IsIdentifiers identifiers_take kind.Barrier BodyBarrier IsBodyStatement (λ a us w. w) ts r a rest (after_takes kind.Barrier ts r is) e
 
 pub body_statement_takes : Sound body_statement IsBodyStatement
 unfolding body_statement
@@ -349,14 +349,12 @@ name_begins k other c Back us rest s =
 name_barrier : (c : Callee) → same_kind (kind_of_name c) kind.Barrier ≡ false
 unfolding same_kind
 name_barrier (Declared name) = refl
-name_barrier U = refl
-name_barrier Cx = refl
+name_barrier _ = refl
 
 name_brace : (c : Callee) → same_kind (kind_of_name c) kind.RightBrace ≡ false
 unfolding same_kind
 name_brace (Declared name) = refl
-name_brace U = refl
-name_brace Cx = refl
+name_brace _ = refl
 
 body_application_again : (a : BodyApply) (us rest : List Lexeme) → IsBodyStatement (BodyApplied a) us → body_application (us ++ rest) ≡ Some (BodyApplied a, rest)
 unfolding body_application
@@ -388,8 +386,7 @@ some_sign k us s = omega (arith, ap length s.2)
 
 some_name : (c : Callee) (us : List Lexeme) → IsName c us → 0 < length us
 some_name (Declared name) us w = omega (arith, ap length w.3)
-some_name U us w = omega (arith, ap length w.2)
-some_name Cx us w = omega (arith, ap length w.2)
+some_name _ us w = omega (arith, ap length w.2)
 
 some_then : (Front Back : List Lexeme → Type 0) (us : List Lexeme) → ((vs : List Lexeme) → Front vs → 0 < length vs) → (Front ⋅ Back) us → 0 < length us
 some_then Front Back us prefix s = omega (arith, ap length s.2, length-append s.0 s.1, prefix s.0 s.3)
@@ -403,11 +400,8 @@ body_statement_shrinks ts a rest e =
     let t = body_statement_takes ts a rest e in
     omega (arith, ap length t.1, length-append t.0 rest, some_body a t.0 t.2)
 
-none_is : {A : Type 0} (x : A) → ◌≡◌ {A = Option A} None (Some x) → ⊥
-none_is x e = cc
-
 body_turn_some : (o : Option (List Lexeme)) (ts : List Lexeme) (x : BodySentence × List Lexeme) → body_turn ts o ≡ Some (Some x) → body_statement ts ≡ Some x
-body_turn_some (Some r) ts x e = absurd (none_is x (same None (Some x) e))
+body_turn_some (Some r) ts x e = absurd (none_some x (same None (Some x) e))
 body_turn_some None ts x e = one_more_some (body_statement ts) x e
 
 body_turn_shrinks : TurnShrinks (λ ts. body_turn ts (after kind.RightBrace ts))
@@ -452,22 +446,12 @@ body_none xs us rest h brace none =
 version_takes : (t : Lexeme) (ts : List Lexeme) (a : Sentence) (rest : List Lexeme) → t.kind ≡ kind.Openqasm → version ts ≡ Some (a, rest) → Took (IsStatement a) (t ∷ ts) rest
 unfolding version
 version_takes t ts a rest is e =
-    let x = bind_some (text kind.Real ts) _ (a, rest) e in
-    let s = bind_some (after kind.Semicolon x.0.1) _ (a, rest) x.2 in
-    let p = same (Version x.0.0, s.0) (a, rest) s.2 in
-    subst (λ (y : Sentence × List Lexeme). Took (IsStatement y.0) (t ∷ ts) y.1) p
-    (took_then (Sign kind.Openqasm) (Word kind.Real x.0.0 ⋅ Sign kind.Semicolon) (t ∷ ts) ts s.0 (sign_took kind.Openqasm t ts is)
-    (took_then (Word kind.Real x.0.0) (Sign kind.Semicolon) ts x.0.1 s.0 (text_takes kind.Real ts x.0.0 x.0.1 x.1) (after_takes kind.Semicolon x.0.1 s.0 s.1)))
+    one_takes (text kind.Real) (Word kind.Real) (text_takes kind.Real) kind.Openqasm Version IsStatement (λ a us w. w) (t ∷ ts) ts a rest (sign_took kind.Openqasm t ts is) e
 
 include_takes : (t : Lexeme) (ts : List Lexeme) (a : Sentence) (rest : List Lexeme) → t.kind ≡ kind.Include → include ts ≡ Some (a, rest) → Took (IsStatement a) (t ∷ ts) rest
 unfolding include
 include_takes t ts a rest is e =
-    let x = bind_some (text kind.Text ts) _ (a, rest) e in
-    let s = bind_some (after kind.Semicolon x.0.1) _ (a, rest) x.2 in
-    let p = same (Include x.0.0, s.0) (a, rest) s.2 in
-    subst (λ (y : Sentence × List Lexeme). Took (IsStatement y.0) (t ∷ ts) y.1) p
-    (took_then (Sign kind.Include) (Word kind.Text x.0.0 ⋅ Sign kind.Semicolon) (t ∷ ts) ts s.0 (sign_took kind.Include t ts is)
-    (took_then (Word kind.Text x.0.0) (Sign kind.Semicolon) ts x.0.1 s.0 (text_takes kind.Text ts x.0.0 x.0.1 x.1) (after_takes kind.Semicolon x.0.1 s.0 s.1)))
+    one_takes (text kind.Text) (Word kind.Text) (text_takes kind.Text) kind.Include Include IsStatement (λ a us w. w) (t ∷ ts) ts a rest (sign_took kind.Include t ts is) e
 
 abbrev IsRegister : List ℕ → List ℕ → List Lexeme → Type 0
 IsRegister name size = IsIdentifier name ⋅ IsIndex (Some size) ⋅ Sign kind.Semicolon
@@ -604,12 +588,7 @@ conditional_takes t ts a rest is e =
 barrier_takes : (t : Lexeme) (ts : List Lexeme) (a : Sentence) (rest : List Lexeme) → t.kind ≡ kind.Barrier → barrier ts ≡ Some (a, rest) → Took (IsStatement a) (t ∷ ts) rest
 unfolding barrier
 barrier_takes t ts a rest is e =
-    let x = bind_some (arguments ts) _ (a, rest) e in
-    let s = bind_some (after kind.Semicolon x.0.1) _ (a, rest) x.2 in
-    let p = same (Barrier x.0.0, s.0) (a, rest) s.2 in
-    subst (λ (y : Sentence × List Lexeme). Took (IsStatement y.0) (t ∷ ts) y.1) p
-    (took_then (Sign kind.Barrier) (IsArguments x.0.0 ⋅ Sign kind.Semicolon) (t ∷ ts) ts s.0 (sign_took kind.Barrier t ts is)
-    (took_then (IsArguments x.0.0) (Sign kind.Semicolon) ts x.0.1 s.0 (arguments_take ts x.0.0 x.0.1 x.1) (after_takes kind.Semicolon x.0.1 s.0 s.1)))
+    one_takes arguments IsArguments arguments_take kind.Barrier Barrier IsStatement (λ a us w. w) (t ∷ ts) ts a rest (sign_took kind.Barrier t ts is) e
 
 act_takes : (ts : List Lexeme) (a : Sentence) (rest : List Lexeme) → act ts ≡ Some (a, rest) → Took (IsStatement a) ts rest
 act_takes ts a rest e =

@@ -5,7 +5,7 @@ ghost use Rattle.std.specs.Option.{option_map};
 ghost use Rattle.qasm_lexer.specs.Tokens.{lexemes};
 ghost use Rattle.qasm_reader.specs.Postfix.{formula_of};
 ghost use Rattle.qasm_reader.specs.Views.{callee, operand};
-ghost use Rattle.qasm_reader.specs.Internal.Taking.{Gives};
+ghost use Rattle.qasm_reader.specs.Internal.Taking.{Reads};
 ghost use Rattle.qasm_reader.specs.Internal.Taking as spec;
 ghost use Rattle.qasm_reader.specs.Internal.Machine.{take_expression};
 
@@ -13,36 +13,28 @@ use crate::expression::Expression;
 use crate::machine::expression;
 use crate::program::{Argument, GateName};
 use crate::step_error::StepError;
-use crate::tokens::{after, expect, text};
+use crate::tokens::{Taken, after, expect, text};
 use qasm_lexer::{Token, TokenKind};
 use std::alloc::Global;
 
 // The identifier at the start of the tokens, and what follows.
-pub(crate) fn identifier<'t, 'a>(
-    tokens: &'t [Token<'a>],
-) -> Result<(&'a [u8], &'t [Token<'a>]), StepError>
-    ensures { Gives (λ x. (x.0.now, lexemes x.1.now)) result
-        (spec.identifier (lexemes tokens.now)) }
+pub(crate) fn identifier<'t, 'a>(tokens: &'t [Token<'a>]) -> Taken<'t, 'a, &'a [u8]>
+    ensures { Reads (λ name. name.now) result (spec.identifier (lexemes tokens.now)) }
 {
     text(tokens, TokenKind::Identifier)
 }
 
 // The whole number at the start of the tokens, and what follows.
-pub(crate) fn natural<'t, 'a>(
-    tokens: &'t [Token<'a>],
-) -> Result<(&'a [u8], &'t [Token<'a>]), StepError>
-    ensures { Gives (λ x. (x.0.now, lexemes x.1.now)) result (spec.natural (lexemes tokens.now)) }
+pub(crate) fn natural<'t, 'a>(tokens: &'t [Token<'a>]) -> Taken<'t, 'a, &'a [u8]>
+    ensures { Reads (λ name. name.now) result (spec.natural (lexemes tokens.now)) }
 {
     text(tokens, TokenKind::Natural)
 }
 
 // The name of a gate at the start of the tokens, and what follows.
 #[tactic(auto, unfolding(crate::specs::Internal::Taking::gate_name))]
-pub(crate) fn gate_name<'t, 'a>(
-    tokens: &'t [Token<'a>],
-) -> Result<(GateName<'a>, &'t [Token<'a>]), StepError>
-    ensures { Gives (λ x. (callee x.0, lexemes x.1.now)) result
-        (spec.gate_name (lexemes tokens.now)) }
+pub(crate) fn gate_name<'t, 'a>(tokens: &'t [Token<'a>]) -> Taken<'t, 'a, GateName<'a>>
+    ensures { Reads callee result (spec.gate_name (lexemes tokens.now)) }
 {
     let [first, rest @ ..] = tokens else {
         return Err(StepError::Misfit);
@@ -67,11 +59,8 @@ fn callee_of<'a>(token: &Token<'a>) -> Option<GateName<'a>>
 
 // The argument at the start of the tokens, and what follows.
 #[tactic(auto, unfolding(crate::specs::Internal::Taking::argument))]
-pub(crate) fn argument<'t, 'a>(
-    tokens: &'t [Token<'a>],
-) -> Result<(Argument<'a>, &'t [Token<'a>]), StepError>
-    ensures { Gives (λ x. (operand x.0, lexemes x.1.now)) result
-        (spec.argument (lexemes tokens.now)) }
+pub(crate) fn argument<'t, 'a>(tokens: &'t [Token<'a>]) -> Taken<'t, 'a, Argument<'a>>
+    ensures { Reads operand result (spec.argument (lexemes tokens.now)) }
 {
     let (register, rest) = identifier(tokens)?;
     let Some(inside) = after(rest, TokenKind::LeftBracket) else {
@@ -99,9 +88,8 @@ pub(crate) fn argument<'t, 'a>(
 pub(crate) fn identifiers<'t, 'a>(
     alloc: Global,
     tokens: &'t [Token<'a>],
-) -> Result<(Vec<&'a [u8]>, &'t [Token<'a>]), StepError>
-    ensures { Gives (λ x. (map (λ name. name.now) x.0.items, lexemes x.1.now)) result
-        (spec.identifiers (lexemes tokens.now)) }
+) -> Taken<'t, 'a, Vec<&'a [u8]>>
+    ensures { Reads (λ found. map (λ name. name.now) found.items) result (spec.identifiers (lexemes tokens.now)) }
 {
     let mut names = Vec::new(alloc);
     let (first, mut rest) = identifier(tokens)?;
@@ -119,9 +107,8 @@ pub(crate) fn identifiers<'t, 'a>(
 pub(crate) fn arguments<'t, 'a>(
     alloc: Global,
     tokens: &'t [Token<'a>],
-) -> Result<(Vec<Argument<'a>>, &'t [Token<'a>]), StepError>
-    ensures { Gives (λ x. (map operand x.0.items, lexemes x.1.now)) result
-        (spec.arguments (lexemes tokens.now)) }
+) -> Taken<'t, 'a, Vec<Argument<'a>>>
+    ensures { Reads (λ found. map operand found.items) result (spec.arguments (lexemes tokens.now)) }
 {
     let mut found = Vec::new(alloc);
     let (first, mut rest) = argument(tokens)?;
@@ -136,11 +123,8 @@ pub(crate) fn arguments<'t, 'a>(
 
 // The expressions at the start of the tokens, with commas between them, and what follows.
 #[tactic(auto, unfolding(crate::specs::Internal::Taking::comma_list))]
-fn expressions<'t, 'a>(
-    alloc: Global,
-    tokens: &'t [Token<'a>],
-) -> Result<(Vec<Expression<'a>>, &'t [Token<'a>]), StepError>
-    ensures { Gives (λ x. (map formula_of x.0.items, lexemes x.1.now)) result
+fn expressions<'t, 'a>(alloc: Global, tokens: &'t [Token<'a>]) -> Taken<'t, 'a, Vec<Expression<'a>>>
+    ensures { Reads (λ found. map formula_of found.items) result
         (spec.comma_list take_expression (lexemes tokens.now)) }
 {
     let mut found = Vec::new(alloc);
@@ -159,9 +143,8 @@ fn expressions<'t, 'a>(
 pub(crate) fn parameters<'t, 'a>(
     alloc: Global,
     tokens: &'t [Token<'a>],
-) -> Result<(Vec<&'a [u8]>, &'t [Token<'a>]), StepError>
-    ensures { Gives (λ x. (map (λ name. name.now) x.0.items, lexemes x.1.now)) result
-        (spec.parameters (lexemes tokens.now)) }
+) -> Taken<'t, 'a, Vec<&'a [u8]>>
+    ensures { Reads (λ found. map (λ name. name.now) found.items) result (spec.parameters (lexemes tokens.now)) }
 {
     let Some(inside) = after(tokens, TokenKind::LeftParenthesis) else {
         return Ok((Vec::new(alloc), tokens));
@@ -179,9 +162,8 @@ pub(crate) fn parameters<'t, 'a>(
 pub(crate) fn angles<'t, 'a>(
     alloc: Global,
     tokens: &'t [Token<'a>],
-) -> Result<(Vec<Expression<'a>>, &'t [Token<'a>]), StepError>
-    ensures { Gives (λ x. (map formula_of x.0.items, lexemes x.1.now)) result
-        (spec.angles (lexemes tokens.now)) }
+) -> Taken<'t, 'a, Vec<Expression<'a>>>
+    ensures { Reads (λ found. map formula_of found.items) result (spec.angles (lexemes tokens.now)) }
 {
     let Some(inside) = after(tokens, TokenKind::LeftParenthesis) else {
         return Ok((Vec::new(alloc), tokens));

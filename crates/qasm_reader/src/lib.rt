@@ -5,6 +5,16 @@
 //! `next_in_body` read a program in parts, with gates' bodies statement by statement, and so does
 //! `parse`.
 //!
+//! Inside:
+//!
+//! - `parser`, `parts`: a program, whole or part by part.
+//! - `statement`, `arguments`, `tokens`: a statement, what it is made of, and single tokens.
+//! - `machine`, `expression`: expressions of angles, put into postfix order token by token.
+//! - `program`: what statements say.
+//! - `depth`: how deep parentheses are nested.
+//! - `error`, `step_error`: why tokens are no program, and why a step stopped.
+//! - `laws`: laws of the grammar.
+//!
 //! ```rust
 //! let program = parse(alloc, &lex(alloc, text)?)?;
 //! ```

@@ -6,12 +6,13 @@ ghost use Rattle.std.specs.Option.{option_map};
 ghost use Rattle.qasm_lexer.specs.Tokens.{lexemes};
 ghost use Rattle.qasm_reader.specs.Items.{entry};
 ghost use Rattle.qasm_reader.specs.Postfix.{formula_of};
-ghost use Rattle.qasm_reader.specs.Internal.Taking.{Gives};
+ghost use Rattle.qasm_reader.specs.Internal.Taking.{Gives, Reads};
 ghost use Rattle.qasm_reader.specs.Internal.Machine.{machine_state, start};
 ghost use Rattle.qasm_reader.specs.Internal.Machine as spec;
 
 use crate::expression::{Expression, Function, Item, Operator};
 use crate::step_error::StepError;
+use crate::tokens::Taken;
 use qasm_lexer::{Token, TokenKind};
 use std::alloc::{AllocError, Global};
 
@@ -189,9 +190,8 @@ impl<'a> Machine<'a> {
 pub(crate) fn expression<'t, 'a>(
     alloc: Global,
     tokens: &'t [Token<'a>],
-) -> Result<(Expression<'a>, &'t [Token<'a>]), StepError>
-    ensures { Gives (λ x. (formula_of x.0, lexemes x.1.now)) result
-        (spec.take_expression (lexemes tokens.now)) }
+) -> Taken<'t, 'a, Expression<'a>>
+    ensures { Reads formula_of result (spec.take_expression (lexemes tokens.now)) }
 {
     let mut machine = Machine::new(alloc);
     let rest = machine.run(tokens)?;

@@ -9,7 +9,7 @@ ghost use Rattle.qasm_reader.specs.Syntax.{GateForm};
 use crate::program::{BodyStatement, GateHeading, Statement, StatementKind};
 use crate::statement::{application, body_statement, opening, statement};
 use crate::step_error::StepError;
-use crate::tokens::after;
+use crate::tokens::{Taken, after};
 use qasm_lexer::{Token, TokenKind};
 use std::alloc::{AllocError, Global};
 
@@ -104,10 +104,7 @@ fn ends_part(kind: TokenKind) -> bool
 
 // The part of a program at the start of the tokens, and what follows.
 #[inline(always)]
-fn first_part<'t, 'a>(
-    alloc: Global,
-    tokens: &'t [Token<'a>],
-) -> Result<(Part<'a>, &'t [Token<'a>]), StepError>
+fn first_part<'t, 'a>(alloc: Global, tokens: &'t [Token<'a>]) -> Taken<'t, 'a, Part<'a>>
     ensures { IsPart (lexemes tokens.now) result }
 {
     let Some((first, inside)) = tokens.split_first() else {
@@ -133,10 +130,7 @@ fn first_part<'t, 'a>(
 }
 
 // The part of a gate's body at the start of the tokens, and what follows.
-fn body_part<'t, 'a>(
-    alloc: Global,
-    tokens: &'t [Token<'a>],
-) -> Result<(BodyPart<'a>, &'t [Token<'a>]), StepError>
+fn body_part<'t, 'a>(alloc: Global, tokens: &'t [Token<'a>]) -> Taken<'t, 'a, BodyPart<'a>>
     ensures { IsBodyPart (lexemes tokens.now) result }
 {
     if let Some(rest) = after(tokens, TokenKind::RightBrace) {

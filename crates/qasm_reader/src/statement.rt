@@ -2,7 +2,7 @@
 
 ghost use Rattle.qasm_lexer.specs.Tokens.{lexemes};
 ghost use Rattle.qasm_reader.specs.Views.{action, body_sentence, sentence};
-ghost use Rattle.qasm_reader.specs.Internal.Taking.{Gives, heading_of};
+ghost use Rattle.qasm_reader.specs.Internal.Taking.{Reads, heading_of};
 ghost use Rattle.qasm_reader.specs.Internal.Taking as spec;
 
 use crate::arguments::{
@@ -12,7 +12,7 @@ use crate::program::{
     Application, BodyApplication, BodyStatement, GateHeading, Operation, StatementKind,
 };
 use crate::step_error::StepError;
-use crate::tokens::{after, expect, text};
+use crate::tokens::{Taken, after, expect, text};
 use qasm_lexer::{Token, TokenKind};
 use std::alloc::Global;
 
@@ -21,9 +21,8 @@ use std::alloc::Global;
 pub(crate) fn statement<'t, 'a>(
     alloc: Global,
     tokens: &'t [Token<'a>],
-) -> Result<(StatementKind<'a>, &'t [Token<'a>]), StepError>
-    ensures { Gives (λ x. (sentence x.0, lexemes x.1.now)) result
-        (spec.simple_statement (lexemes tokens.now)) }
+) -> Taken<'t, 'a, StatementKind<'a>>
+    ensures { Reads sentence result (spec.simple_statement (lexemes tokens.now)) }
 {
     let [first, rest @ ..] = tokens else {
         return Err(StepError::Misfit);
@@ -45,11 +44,8 @@ pub(crate) fn statement<'t, 'a>(
 
 // What follows `OPENQASM`.
 #[tactic(auto, unfolding(crate::specs::Internal::Taking::version))]
-fn version<'t, 'a>(
-    tokens: &'t [Token<'a>],
-) -> Result<(StatementKind<'a>, &'t [Token<'a>]), StepError>
-    ensures { Gives (λ x. (sentence x.0, lexemes x.1.now)) result
-        (spec.version (lexemes tokens.now)) }
+fn version<'t, 'a>(tokens: &'t [Token<'a>]) -> Taken<'t, 'a, StatementKind<'a>>
+    ensures { Reads sentence result (spec.version (lexemes tokens.now)) }
 {
     let (real, rest) = text(tokens, TokenKind::Real)?;
     let rest = expect(rest, TokenKind::Semicolon)?;
@@ -58,11 +54,8 @@ fn version<'t, 'a>(
 
 // What follows `include`.
 #[tactic(auto, unfolding(crate::specs::Internal::Taking::include))]
-fn include<'t, 'a>(
-    tokens: &'t [Token<'a>],
-) -> Result<(StatementKind<'a>, &'t [Token<'a>]), StepError>
-    ensures { Gives (λ x. (sentence x.0, lexemes x.1.now)) result
-        (spec.include (lexemes tokens.now)) }
+fn include<'t, 'a>(tokens: &'t [Token<'a>]) -> Taken<'t, 'a, StatementKind<'a>>
+    ensures { Reads sentence result (spec.include (lexemes tokens.now)) }
 {
     let (name, rest) = text(tokens, TokenKind::Text)?;
     let rest = expect(rest, TokenKind::Semicolon)?;
@@ -71,11 +64,8 @@ fn include<'t, 'a>(
 
 // A register's name and size.
 #[tactic(auto, unfolding(crate::specs::Internal::Taking::register))]
-fn register<'t, 'a>(
-    tokens: &'t [Token<'a>],
-) -> Result<((&'a [u8], &'a [u8]), &'t [Token<'a>]), StepError>
-    ensures { Gives (λ x. ((x.0.0.now, x.0.1.now), lexemes x.1.now)) result
-        (spec.register (lexemes tokens.now)) }
+fn register<'t, 'a>(tokens: &'t [Token<'a>]) -> Taken<'t, 'a, (&'a [u8], &'a [u8])>
+    ensures { Reads (λ pair. (pair.0.now, pair.1.now)) result (spec.register (lexemes tokens.now)) }
 {
     let (name, rest) = identifier(tokens)?;
     let inside = expect(rest, TokenKind::LeftBracket)?;
@@ -86,22 +76,16 @@ fn register<'t, 'a>(
 }
 
 // What follows `qreg`.
-fn qubit_register<'t, 'a>(
-    tokens: &'t [Token<'a>],
-) -> Result<(StatementKind<'a>, &'t [Token<'a>]), StepError>
-    ensures { Gives (λ x. (sentence x.0, lexemes x.1.now)) result
-        (spec.qubit_register (lexemes tokens.now)) }
+fn qubit_register<'t, 'a>(tokens: &'t [Token<'a>]) -> Taken<'t, 'a, StatementKind<'a>>
+    ensures { Reads sentence result (spec.qubit_register (lexemes tokens.now)) }
 {
     let ((name, size), rest) = register(tokens)?;
     Ok((StatementKind::QubitRegister { name, size }, rest))
 }
 
 // What follows `creg`.
-fn bit_register<'t, 'a>(
-    tokens: &'t [Token<'a>],
-) -> Result<(StatementKind<'a>, &'t [Token<'a>]), StepError>
-    ensures { Gives (λ x. (sentence x.0, lexemes x.1.now)) result
-        (spec.bit_register (lexemes tokens.now)) }
+fn bit_register<'t, 'a>(tokens: &'t [Token<'a>]) -> Taken<'t, 'a, StatementKind<'a>>
+    ensures { Reads sentence result (spec.bit_register (lexemes tokens.now)) }
 {
     let ((name, size), rest) = register(tokens)?;
     Ok((StatementKind::BitRegister { name, size }, rest))
@@ -109,12 +93,8 @@ fn bit_register<'t, 'a>(
 
 // The name, the parameters and the qubits of a gate that is declared.
 #[tactic(auto, unfolding(crate::specs::Internal::Taking::heading))]
-fn heading<'t, 'a>(
-    alloc: Global,
-    tokens: &'t [Token<'a>],
-) -> Result<(GateHeading<'a>, &'t [Token<'a>]), StepError>
-    ensures { Gives (λ x. (heading_of x.0, lexemes x.1.now)) result
-        (spec.heading (lexemes tokens.now)) }
+fn heading<'t, 'a>(alloc: Global, tokens: &'t [Token<'a>]) -> Taken<'t, 'a, GateHeading<'a>>
+    ensures { Reads heading_of result (spec.heading (lexemes tokens.now)) }
 {
     let (name, rest) = identifier(tokens)?;
     let (parameters, rest) = parameters(alloc, rest)?;
@@ -134,9 +114,8 @@ fn heading<'t, 'a>(
 pub(crate) fn opening<'t, 'a>(
     alloc: Global,
     tokens: &'t [Token<'a>],
-) -> Result<(GateHeading<'a>, &'t [Token<'a>]), StepError>
-    ensures { Gives (λ x. (heading_of x.0, lexemes x.1.now)) result
-        (spec.opening (lexemes tokens.now)) }
+) -> Taken<'t, 'a, GateHeading<'a>>
+    ensures { Reads heading_of result (spec.opening (lexemes tokens.now)) }
 {
     let (heading, rest) = heading(alloc, tokens)?;
     let inside = expect(rest, TokenKind::LeftBrace)?;
@@ -145,12 +124,8 @@ pub(crate) fn opening<'t, 'a>(
 
 // What follows `opaque`.
 #[tactic(auto, unfolding(crate::specs::Internal::Taking::opaque))]
-fn opaque<'t, 'a>(
-    alloc: Global,
-    tokens: &'t [Token<'a>],
-) -> Result<(StatementKind<'a>, &'t [Token<'a>]), StepError>
-    ensures { Gives (λ x. (sentence x.0, lexemes x.1.now)) result
-        (spec.opaque (lexemes tokens.now)) }
+fn opaque<'t, 'a>(alloc: Global, tokens: &'t [Token<'a>]) -> Taken<'t, 'a, StatementKind<'a>>
+    ensures { Reads sentence result (spec.opaque (lexemes tokens.now)) }
 {
     let (head, rest) = heading(alloc, tokens)?;
     let rest = expect(rest, TokenKind::Semicolon)?;
@@ -159,11 +134,8 @@ fn opaque<'t, 'a>(
 
 // The register and the value of a condition between parentheses.
 #[tactic(auto, unfolding(crate::specs::Internal::Taking::condition))]
-fn condition<'t, 'a>(
-    tokens: &'t [Token<'a>],
-) -> Result<((&'a [u8], &'a [u8]), &'t [Token<'a>]), StepError>
-    ensures { Gives (λ x. ((x.0.0.now, x.0.1.now), lexemes x.1.now)) result
-        (spec.condition (lexemes tokens.now)) }
+fn condition<'t, 'a>(tokens: &'t [Token<'a>]) -> Taken<'t, 'a, (&'a [u8], &'a [u8])>
+    ensures { Reads (λ pair. (pair.0.now, pair.1.now)) result (spec.condition (lexemes tokens.now)) }
 {
     let inside = expect(tokens, TokenKind::LeftParenthesis)?;
     let (register, rest) = identifier(inside)?;
@@ -175,12 +147,8 @@ fn condition<'t, 'a>(
 
 // What follows `if`.
 #[tactic(auto, unfolding(crate::specs::Internal::Taking::conditional))]
-fn conditional<'t, 'a>(
-    alloc: Global,
-    tokens: &'t [Token<'a>],
-) -> Result<(StatementKind<'a>, &'t [Token<'a>]), StepError>
-    ensures { Gives (λ x. (sentence x.0, lexemes x.1.now)) result
-        (spec.conditional (lexemes tokens.now)) }
+fn conditional<'t, 'a>(alloc: Global, tokens: &'t [Token<'a>]) -> Taken<'t, 'a, StatementKind<'a>>
+    ensures { Reads sentence result (spec.conditional (lexemes tokens.now)) }
 {
     let ((register, value), rest) = condition(tokens)?;
     let (operation, rest) = operation(alloc, rest)?;
@@ -196,12 +164,8 @@ fn conditional<'t, 'a>(
 
 // What follows `barrier`.
 #[tactic(auto, unfolding(crate::specs::Internal::Taking::barrier))]
-fn barrier<'t, 'a>(
-    alloc: Global,
-    tokens: &'t [Token<'a>],
-) -> Result<(StatementKind<'a>, &'t [Token<'a>]), StepError>
-    ensures { Gives (λ x. (sentence x.0, lexemes x.1.now)) result
-        (spec.barrier (lexemes tokens.now)) }
+fn barrier<'t, 'a>(alloc: Global, tokens: &'t [Token<'a>]) -> Taken<'t, 'a, StatementKind<'a>>
+    ensures { Reads sentence result (spec.barrier (lexemes tokens.now)) }
 {
     let (qubits, rest) = arguments(alloc, tokens)?;
     let rest = expect(rest, TokenKind::Semicolon)?;
@@ -210,12 +174,8 @@ fn barrier<'t, 'a>(
 
 // The operation on qubits at the start of the tokens, and what follows.
 #[tactic(auto, unfolding(crate::specs::Internal::Taking::operation))]
-fn operation<'t, 'a>(
-    alloc: Global,
-    tokens: &'t [Token<'a>],
-) -> Result<(Operation<'a>, &'t [Token<'a>]), StepError>
-    ensures { Gives (λ x. (action x.0, lexemes x.1.now)) result
-        (spec.operation (lexemes tokens.now)) }
+fn operation<'t, 'a>(alloc: Global, tokens: &'t [Token<'a>]) -> Taken<'t, 'a, Operation<'a>>
+    ensures { Reads action result (spec.operation (lexemes tokens.now)) }
 {
     let [first, rest @ ..] = tokens else {
         return Err(StepError::Misfit);
@@ -232,9 +192,8 @@ fn operation<'t, 'a>(
 pub(crate) fn application<'t, 'a>(
     alloc: Global,
     tokens: &'t [Token<'a>],
-) -> Result<(Operation<'a>, &'t [Token<'a>]), StepError>
-    ensures { Gives (λ x. (action x.0, lexemes x.1.now)) result
-        (spec.application (lexemes tokens.now)) }
+) -> Taken<'t, 'a, Operation<'a>>
+    ensures { Reads action result (spec.application (lexemes tokens.now)) }
 {
     let (gate, rest) = gate_name(tokens)?;
     let (angles, rest) = angles(alloc, rest)?;
@@ -252,9 +211,8 @@ pub(crate) fn application<'t, 'a>(
 
 // What follows `measure`.
 #[tactic(auto, unfolding(crate::specs::Internal::Taking::measure))]
-fn measure<'t, 'a>(tokens: &'t [Token<'a>]) -> Result<(Operation<'a>, &'t [Token<'a>]), StepError>
-    ensures { Gives (λ x. (action x.0, lexemes x.1.now)) result
-        (spec.measure (lexemes tokens.now)) }
+fn measure<'t, 'a>(tokens: &'t [Token<'a>]) -> Taken<'t, 'a, Operation<'a>>
+    ensures { Reads action result (spec.measure (lexemes tokens.now)) }
 {
     let (from, rest) = argument(tokens)?;
     let rest = expect(rest, TokenKind::Arrow)?;
@@ -265,8 +223,8 @@ fn measure<'t, 'a>(tokens: &'t [Token<'a>]) -> Result<(Operation<'a>, &'t [Token
 
 // What follows `reset`.
 #[tactic(auto, unfolding(crate::specs::Internal::Taking::reset))]
-fn reset<'t, 'a>(tokens: &'t [Token<'a>]) -> Result<(Operation<'a>, &'t [Token<'a>]), StepError>
-    ensures { Gives (λ x. (action x.0, lexemes x.1.now)) result (spec.reset (lexemes tokens.now)) }
+fn reset<'t, 'a>(tokens: &'t [Token<'a>]) -> Taken<'t, 'a, Operation<'a>>
+    ensures { Reads action result (spec.reset (lexemes tokens.now)) }
 {
     let (argument, rest) = argument(tokens)?;
     let rest = expect(rest, TokenKind::Semicolon)?;
@@ -278,9 +236,8 @@ fn reset<'t, 'a>(tokens: &'t [Token<'a>]) -> Result<(Operation<'a>, &'t [Token<'
 pub(crate) fn body_statement<'t, 'a>(
     alloc: Global,
     tokens: &'t [Token<'a>],
-) -> Result<(BodyStatement<'a>, &'t [Token<'a>]), StepError>
-    ensures { Gives (λ x. (body_sentence x.0, lexemes x.1.now)) result
-        (spec.body_statement (lexemes tokens.now)) }
+) -> Taken<'t, 'a, BodyStatement<'a>>
+    ensures { Reads body_sentence result (spec.body_statement (lexemes tokens.now)) }
 {
     match after(tokens, TokenKind::Barrier) {
         Some(rest) => body_barrier(alloc, rest),
@@ -289,12 +246,8 @@ pub(crate) fn body_statement<'t, 'a>(
 }
 
 // What follows `barrier` in a body.
-fn body_barrier<'t, 'a>(
-    alloc: Global,
-    tokens: &'t [Token<'a>],
-) -> Result<(BodyStatement<'a>, &'t [Token<'a>]), StepError>
-    ensures { Gives (λ x. (body_sentence x.0, lexemes x.1.now)) result
-        (spec.body_barrier (lexemes tokens.now)) }
+fn body_barrier<'t, 'a>(alloc: Global, tokens: &'t [Token<'a>]) -> Taken<'t, 'a, BodyStatement<'a>>
+    ensures { Reads body_sentence result (spec.body_barrier (lexemes tokens.now)) }
 {
     let (qubits, rest) = identifiers(alloc, tokens)?;
     let rest = expect(rest, TokenKind::Semicolon)?;
@@ -306,9 +259,8 @@ fn body_barrier<'t, 'a>(
 fn body_application<'t, 'a>(
     alloc: Global,
     tokens: &'t [Token<'a>],
-) -> Result<(BodyStatement<'a>, &'t [Token<'a>]), StepError>
-    ensures { Gives (λ x. (body_sentence x.0, lexemes x.1.now)) result
-        (spec.body_application (lexemes tokens.now)) }
+) -> Taken<'t, 'a, BodyStatement<'a>>
+    ensures { Reads body_sentence result (spec.body_application (lexemes tokens.now)) }
 {
     let (gate, rest) = gate_name(tokens)?;
     let (angles, rest) = angles(alloc, rest)?;

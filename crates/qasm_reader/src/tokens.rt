@@ -3,11 +3,14 @@
 ghost use Rattle.std.specs.Prelude.{◌≡◌};
 ghost use Rattle.std.specs.Option.{option_map};
 ghost use Rattle.qasm_lexer.specs.Tokens.{lexemes};
-ghost use Rattle.qasm_reader.specs.Internal.Taking.{Gives};
+ghost use Rattle.qasm_reader.specs.Internal.Taking.{Gives, Reads};
 ghost use Rattle.qasm_reader.specs.Internal.Taking as spec;
 
 use crate::step_error::StepError;
 use qasm_lexer::{Token, TokenKind};
+
+// What stands at the start of tokens, and the tokens that follow.
+pub(crate) type Taken<'t, 'a, T> = Result<(T, &'t [Token<'a>]), StepError>;
 
 // Whether two kinds are the same.
 fn same_kind(left: TokenKind, right: TokenKind) -> bool
@@ -44,11 +47,8 @@ pub(crate) fn expect<'t, 'a>(
 
 // The bytes of the first token, which is to be of this kind, and what follows.
 #[tactic(auto, unfolding(crate::specs::Internal::Taking::text))]
-pub(crate) fn text<'t, 'a>(
-    tokens: &'t [Token<'a>],
-    kind: TokenKind,
-) -> Result<(&'a [u8], &'t [Token<'a>]), StepError>
-    ensures { Gives (λ x. (x.0.now, lexemes x.1.now)) result (spec.text kind (lexemes tokens.now)) }
+pub(crate) fn text<'t, 'a>(tokens: &'t [Token<'a>], kind: TokenKind) -> Taken<'t, 'a, &'a [u8]>
+    ensures { Reads (λ name. name.now) result (spec.text kind (lexemes tokens.now)) }
 {
     match tokens.split_first() {
         Some((first, rest)) if same_kind(first.kind, kind) => Ok((first.slice, rest)),

@@ -12,7 +12,7 @@ use Rattle.qasm_scope.specs.Faults.{body_is_unsupported, body_has_unknown, body_
 use Rattle.qasm_scope.specs.Angles.{FormalPlaces, places_among}
 use Rattle.qasm_scope.specs.HeaderGates.{first_gates, further_gates}
 use Rattle.qasm_scope.specs.Meaning.{with_first, with_further}
-use Rattle.qasm_scope.specs.Scope.{Scope, Declaration, Gate, Lookup, lookup_in, meaning_of, is_declared, is_taken, declared, shape_in}
+use Rattle.qasm_scope.specs.Scope.{Scope, Declaration, Gate, lookup_in, meaning_of, is_declared, is_taken, declared, shape_in}
 use Rattle.qasm_scope.specs.Applications.{has_twice}
 
 -- ---- names
@@ -96,13 +96,10 @@ pub first_gate_faultless : (scope : Scope) (prefix : List GateForm) (form : Gate
 first_gate_faultless scope prefix form back none e =
     first_after prefix form back scope (subst (λ forms. AreFirstFaultless forms scope) e (first_faultless scope none))
 
--- ---- scopes in which the names of another one mean the same
-pub record Keeps (before after : Scope) : Type 0 where
+-- ---- scopes in which the names of another one are still declared, and are found to be the same
+pub record Keeps {A : Type 0} (find : List ℕ → Scope → Option A) (before after : Scope) : Type 0 where
   pub still : (name : List ℕ) → is_declared name before ≡ true → is_declared name after ≡ true
-  pub same : (name : List ℕ) → is_declared name before ≡ true → meaning_of name after ≡ meaning_of name before
-
-pub keeps_itself : (scope : Scope) → Keeps scope scope
-keeps_itself scope = record { still = λ name e. e; same = λ name e. refl }
+  pub same : (name : List ℕ) → is_declared name before ≡ true → find name after ≡ find name before
 
 other_name : (a b : List ℕ) (scope : Scope) → is_declared a scope ≡ false → is_declared b scope ≡ true → bytes_eq a b ≡ false
 other_name a b scope e f = elim (cases_Bool (bytes_eq a b)) [
@@ -110,24 +107,20 @@ other_name a b scope e f = elim (cases_Bool (bytes_eq a b)) [
   | inr other ↦ other
 ]
 
--- a declaration of a free name keeps the names
-pub keeps_more : (before after : Scope) (d : Declaration) → is_declared d.name after ≡ false → Keeps before after → Keeps before (d ∷ after)
-keeps_more before after d free k = record {
-  still = λ name e. ap₂ (λ same declared. same || declared) (other_name d.name name after free (k.still name e)) (k.still name e);
-  same = λ name e. ap (λ same. if same then Some d.meaning else meaning_of name after) (other_name d.name name after free (k.still name e)) ∙ k.same name e;
-}
+-- so are they after a further gate, whose name is found to be this value
+module _ {A : Type 0} (find : List ℕ → Scope → Option A) (before after : Scope) (form : GateForm) (value : A)
+    (finds : (name : List ℕ) → find name (replaceable form ∷ after) ≡ (if bytes_eq form.name name then Some value else find name after)) where
+  keeps_more : is_declared form.name after ≡ false → Keeps find before after → Keeps find before (replaceable form ∷ after)
+  keeps_more free k = record {
+    still = λ name e. ap₂ (λ same declared. same || declared) (other_name form.name name after free (k.still name e)) (k.still name e);
+    same = λ name e. finds name ∙ ap (λ same. if same then Some value else find name after) (other_name form.name name after free (k.still name e)) ∙ k.same name e;
+  }
 
-pub keeps_step : (before after : Scope) (form : GateForm) → Keeps before after
-    → Keeps before (if is_declared form.name after then after else replaceable form ∷ after)
-keeps_step before after form k = go (is_declared form.name after) refl where
-  go : (o : Bool) → is_declared form.name after ≡ o → Keeps before (if o then after else replaceable form ∷ after)
-  go true e = k
-  go false e = keeps_more before after (replaceable form) e k
-
--- the further gates keep all names
-pub keeps_further : (before after : Scope) (forms : List GateForm) → Keeps before after → Keeps before (with_further forms after)
-keeps_further before after [] k = k
-keeps_further before after (form ∷ forms) k = keeps_further before (if is_declared form.name after then after else replaceable form ∷ after) forms (keeps_step before after form k)
+  pub keeps_step : Keeps find before after → Keeps find before (if is_declared form.name after then after else replaceable form ∷ after)
+  keeps_step k = go (is_declared form.name after) refl where
+    go : (o : Bool) → is_declared form.name after ≡ o → Keeps find before (if o then after else replaceable form ∷ after)
+    go true e = k
+    go false e = keeps_more e k
 
 -- ---- a body whose gates are declared has the same faults where their names mean the same
 abbrev pub knows_gate : Scope → Callee → Bool
@@ -139,11 +132,10 @@ abbrev pub knows : Scope → BodySentence → Bool
 knows scope (BodyApplied a) = knows_gate scope a.gate
 knows scope (BodyBarrier names) = true
 
-module _ (before after : Scope) (k : Keeps before after) where
+module _ (before after : Scope) (k : Keeps meaning_of before after) where
   same_shape : (gate : Callee) → knows_gate before gate ≡ true → shape_of (lookup_in after) gate ≡ shape_of (lookup_in before) gate
   same_shape (Declared name) e = ap shape_in (k.same name e)
-  same_shape U e = refl
-  same_shape Cx e = refl
+  same_shape _ e = refl
 
   same_unknown : (parameters qubits : FormalPlaces) (b : BodySentence) → knows before b ≡ true
       → body_has_unknown (lookup_in after) parameters qubits b ≡ body_has_unknown (lookup_in before) parameters qubits b
@@ -174,11 +166,11 @@ abbrev AreSound : Scope → List GateForm → Type 0
 AreSound scope [] = Unit {0}
 AreSound scope (form ∷ forms) = (list_all (knows scope) form.body ≡ true) × (wrong_but_name scope form ≡ None) × AreSound scope forms
 
-further_are : (before after : Scope) (forms : List GateForm) → AreSound before forms → Keeps before after → AreFurtherFaultless forms after
+further_are : (before after : Scope) (forms : List GateForm) → AreSound before forms → Keeps meaning_of before after → AreFurtherFaultless forms after
 further_are before after [] s k = tt
 further_are before after (form ∷ forms) s k = (
   λ free. faultless after form (free-taken form.name after free) (same_wrong before after k form s.0 ∙ s.1),
-  further_are before (if is_declared form.name after then after else replaceable form ∷ after) forms s.2 (keeps_step before after form k),
+  further_are before (if is_declared form.name after then after else replaceable form ∷ after) forms s.2 (keeps_step meaning_of before after form (Gate form) (λ name. refl) k),
 )
 
 further_sound : (scope : Scope) → AreSound (with_first first_gates scope) further_gates
@@ -186,7 +178,7 @@ further_sound scope = (refl, refl, (refl, refl, (refl, refl, (refl, refl, (refl,
 
 pub further_faultless : (scope : Scope) → AreFurtherFaultless further_gates (with_first first_gates scope)
 further_faultless scope =
-    further_are (with_first first_gates scope) (with_first first_gates scope) further_gates (further_sound scope) (keeps_itself (with_first first_gates scope))
+    further_are (with_first first_gates scope) (with_first first_gates scope) further_gates (further_sound scope) (record { still = λ name e. e; same = λ name e. refl })
 
 further_after : (prefix : List GateForm) (form : GateForm) (back : List GateForm) (scope : Scope) → AreFurtherFaultless (prefix ++ form ∷ back) scope
     → is_declared form.name (with_further prefix scope) ≡ false → wrong_in (with_further prefix scope) (DeclareGate form) ≡ None

@@ -12,12 +12,11 @@ same_program text a b p q =
 
 same_forms : (a b : List GateForm) → map DeclareGate a ≡ map DeclareGate b → a ≡ b
 same_forms [] [] e = refl
-same_forms [] (y ∷ b) e = absurd cc
-same_forms (x ∷ a) [] e = absurd cc
 same_forms (x ∷ a) (y ∷ b) e =
     let head : x ≡ y = cc in
     let tail : map DeclareGate a ≡ map DeclareGate b = cc in
     ap (λ (form : GateForm). form ∷ a) head ∙ ap (λ (forms : List GateForm). y ∷ forms) (same_forms a b tail)
+same_forms _ _ e = absurd cc
 
 pub same_gates : (text : List ℕ) (a b : GatesOf text) → a.gates ≡ b.gates
 same_gates text a b =

@@ -5,7 +5,7 @@ use Rattle.std.proofs.lemmas.Bool.Decides.{nat_tests}
 use Rattle.zx_gates.specs.Circuit.{most_qubits}
 use Rattle.zx_gates.specs.declared.elementary.Measure.{Measure}
 use Rattle.qasm_angle.specs.Trees.{Tree}
-use Rattle.qasm_reader.specs.Syntax.{Apply, Callee, Declared, U, Cx, Operand, Act, Applied}
+use Rattle.qasm_reader.specs.Syntax.{Apply, Callee, Declared, Operand, Act, Applied}
 use Rattle.qasm_scope.specs.Calls.{Event}
 use Rattle.qasm_scope.specs.declared.causes.Cause.{Cause}
 use Rattle.qasm_scope.specs.declared.causes.Cause.TheVariants as cause
@@ -47,11 +47,8 @@ unfolding wrong_in
 wrong_in-application scope a = refl
 
 unresolved-cause : (u k w p s q : Bool) → (u || k || w || p) ≡ true → application_cause u k w p s q ≡ Some (unresolved_cause u k w)
-unresolved-cause true k w p s q h = refl
-unresolved-cause false true w p s q h = refl
-unresolved-cause false false true p s q h = refl
-unresolved-cause false false false true s q h = refl
 unresolved-cause false false false false s q h = absurd (cc)
+unresolved-cause _ _ _ _ s q h = refl
 
 -- what is wrong with an application that isn't resolved
 pub wrong-unresolved : (symbols : Symbols) (scope : Scope) (a : Apply) → AreNames symbols scope → is_unresolved (lookup_by symbols) a ≡ true
@@ -64,10 +61,7 @@ wrong-unresolved symbols scope a h unresolved =
 
 clear-cause : (u k w p s q : Bool) → u ≡ false → k ≡ false → w ≡ false → p ≡ false → application_cause u k w p s q ≡ resolved_cause s q
 clear-cause false false false false s q eu ek ew ep = refl
-clear-cause true k w p s q eu ek ew ep = absurd (cc)
-clear-cause false true w p s q eu ek ew ep = absurd (cc)
-clear-cause false false true p s q eu ek ew ep = absurd (cc)
-clear-cause false false false true s q eu ek ew ep = absurd (cc)
+clear-cause _ _ _ _ s q eu ek ew ep = absurd (cc)
 
 pub spans-ranges : (scope : Scope) (operands : List Operand) → IsSound scope
     → list_any (has_past_index (lookup_in scope)) operands ≡ false → map (span_of (lookup_in scope)) operands ≡ ranges_of (lookup_in scope) operands
@@ -107,8 +101,7 @@ behind-resolved symbols scope measured h sound r =
 -- no formal name hides a gate
 none-hidden : (gate : Callee) → is_hidden (places_among []) (places_among []) gate ≡ false
 none-hidden (Declared name) = refl
-none-hidden U = refl
-none-hidden Cx = refl
+none-hidden _ = refl
 
 -- the names of the gate and in its angles, where there are no formal names
 unknown-gate : (symbols : Symbols) (formals : Formals) (a : Apply) → ArePlaces formals.parameters [] → ArePlaces formals.qubits []
@@ -131,12 +124,8 @@ same-causes symbols formals a faults unknown parameters qubits same names =
     ∙ ap (λ k. unresolved_cause (list_any is_unsupported a.angles) k (has_wrong_count (lookup_by symbols) a)) (unknown-kept symbols formals a parameters qubits)
 
 or-gate : (u g o r w p : Bool) → (u || (g || o) || w) ≡ true → (u || (g || o || r) || w || p) ≡ true
-or-gate true g o r w p h = refl
-or-gate false true o r w p h = refl
-or-gate false false true r w p h = refl
-or-gate false false false true w p h = refl
-or-gate false false false false true p h = refl
 or-gate false false false false false p h = absurd (cc)
+or-gate _ _ _ _ _ p h = refl
 
 -- something is wrong with the gate or its angles
 pub unresolved-gate : (symbols : Symbols) (formals : Formals) (a : Apply) → ArePlaces formals.parameters [] → ArePlaces formals.qubits []
@@ -147,12 +136,8 @@ unresolved-gate symbols formals a parameters qubits h =
     (sym (ap (λ k. list_any is_unsupported a.angles || k || has_wrong_count (lookup_by symbols) a) (unknown-gate symbols formals a parameters qubits)) ∙ h)
 
 or-arguments : (u g o r w p : Bool) → (r || p) ≡ true → (u || (g || o || r) || w || p) ≡ true
-or-arguments true g o r w p h = refl
-or-arguments false true o r w p h = refl
-or-arguments false false true r w p h = refl
-or-arguments false false false true w p h = refl
-or-arguments false false false false true p h = refl
 or-arguments false false false false false p h = h
+or-arguments _ _ _ _ _ p h = refl
 
 -- an argument isn't there
 pub unresolved-arguments : (symbols : Symbols) (a : Apply) → any_missing (lookup_by symbols) a.qubits ≡ true → is_unresolved (lookup_by symbols) a ≡ true
@@ -187,10 +172,9 @@ AreSmall [] = Unit {0}
 AreSmall (t ∷ ranges) = IsSmall most_qubits t × AreSmall ranges
 
 pub small-at : (limit : ℕ) (register : Option (ℕ × ℕ)) (index : Option (List ℕ)) → LiesBelow limit register → is_past register index ≡ false → IsSmall limit (range_in register index)
-small-at limit None None few h = omega arith
-small-at limit None (Some text) few h = omega arith
 small-at limit (Some register) None few h = (omega arith, omega arith)
 small-at limit (Some register) (Some text) few h = let within : numeral text < register.1 = grind (arith, nat_tests) in omega arith
+small-at limit None _ few h = omega arith
 
 small-ranges : (scope : Scope) (operands : List Operand) → IsSound scope → list_any (has_past_index (lookup_in scope)) operands ≡ false → AreSmall (ranges_of (lookup_in scope) operands)
 small-ranges scope [] sound within = tt

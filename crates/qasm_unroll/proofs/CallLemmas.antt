@@ -4,6 +4,7 @@ use Rattle.std.specs.List.{flat_map, list_any, position_from}
 use Rattle.std.specs.Option.{is_some}
 use Rattle.std.specs.Str.{bytes_eq}
 use Rattle.std.proofs.Math.Nat.{zero-add}
+use Rattle.std.proofs.lemmas.Bool.{not-false, or_from, or_right}
 use Rattle.std.proofs.lemmas.Bool.Decides.{nat_tests}
 use Rattle.std.proofs.lemmas.Iterator.Adapters.{position_from-zero}
 use Rattle.std.proofs.lemmas.List.{length-map}
@@ -18,7 +19,7 @@ use Rattle.qasm_scope.specs.Applications.{has_twice}
 use Rattle.qasm_scope.specs.Calls.{Event, applied, u_of, expand, call, body_call, expand_meaning, expand_declared}
 use Rattle.qasm_scope.specs.Faults.{shape_of, is_no_gate, has_other_shape, is_hidden, has_other_name, body_has_unknown, body_has_wrong_count, body_has_same_qubit, is_other}
 use Rattle.qasm_names.specs.Kept.{IsSound, IsSoundMeaning}
-use Rattle.qasm_scope.specs.Scope.{Scope, Meaning, Qubits, Bits, Gate, meaning_of, lookup_in, shape_in}
+use Rattle.qasm_scope.specs.Scope.{Scope, Meaning, Gate, meaning_of, lookup_in, shape_in}
 use Rattle.qasm_unroll.proofs.EventLemmas.{applied-append}
 use Rattle.qasm_unroll.specs.Internal.KeptCalls.{u_events, cx_events}
 use Rattle.qasm_names.proofs.Formulas.{is_some-place}
@@ -97,19 +98,11 @@ named-chosen qubits ns name h =
     ap (λ o. slice_index_or qubits (place_or_zero o) 0) (position_from-zero (λ other. bytes_eq other name) ns ∙ place-from (λ other. bytes_eq other name) 0 ns h ∙ ap Some (zero-add _))
     ∙ chosen-place (λ other. bytes_eq other name) ns qubits h
 
-or-true : (a b : Bool) → b ≡ true → (a || b) ≡ true
-or-true true b h = refl
-or-true false b h = h
-
-both-false : (a b : Bool) → a ≡ false → b ≡ false → (a || b) ≡ false
-both-false true b h k = absurd (cc)
-both-false false b h k = k
-
 -- it is among the qubits
 member-at : (b any : Bool) (q x : ℕ) (qs : List ℕ) → (b || any) ≡ true → (any ≡ true → list_any (λ m. m == x) qs ≡ true)
     → list_any (λ m. m == (if b then q else x)) (q ∷ qs) ≡ true
 member-at true any q x qs h k = ap (λ b. b || list_any (λ m. m == q) qs) (same_number q)
-member-at false any q x qs h k = or-true (q == x) (list_any (λ m. m == x) qs) (k h)
+member-at false any q x qs h k = or_right (q == x) (list_any (λ m. m == x) qs) (k h)
 
 member : {A : Type 0} (p : A → Bool) (ns : List A) (qs : List ℕ) → length qs ≡ length ns → list_any p ns ≡ true → list_any (λ m. m == chosen p ns qs) qs ≡ true
 member p [] qs e h = absurd (cc)
@@ -151,10 +144,6 @@ below-member : (limit x : ℕ) (qs : List ℕ) → Each (λ q. q < limit) qs →
 below-member limit x [] h k = absurd (cc)
 below-member limit x (q ∷ qs) h k = below-at (q == x) limit q x qs refl h.0 k (below-member limit x qs h.1)
 
-not-false : (b : Bool) → not b ≡ false → b ≡ true
-not-false true h = refl
-not-false false h = absurd (cc)
-
 -- names of other bytes
 names-differ : (name other n : List ℕ) → bytes_eq other name ≡ false → bytes_eq n other ≡ true → bytes_eq n name ≡ true → false ≡ true
 names-differ name other n h k l =
@@ -174,7 +163,7 @@ named-others : (qubits : List ℕ) (ns : List (List ℕ)) (name : List ℕ) (nam
     → list_any (λ m. m == named qubits ns name) (map (named qubits ns) names) ≡ false
 named-others qubits ns name [] e twice h known apart = refl
 named-others qubits ns name (other ∷ names) e twice h known apart =
-    both-false (named qubits ns other == named qubits ns name) _
+    or_from (named qubits ns other == named qubits ns name) _
     (named-differ qubits ns name other e twice h (not-false (is_in ns other) (or-first _ _ known)) (or-first _ _ apart))
     (named-others qubits ns name names e twice h (or-second (not (is_in ns other)) _ known) (or-second (bytes_eq other name) _ apart))
 
@@ -182,7 +171,7 @@ named-distinct : (qubits : List ℕ) (ns names : List (List ℕ)) → length qub
     → list_any (λ name. not (is_in ns name)) names ≡ false → has_twice bytes_eq names ≡ false → has_twice ◌==◌ (map (named qubits ns) names) ≡ false
 named-distinct qubits ns [] e twice known apart = refl
 named-distinct qubits ns (name ∷ names) e twice known apart =
-    both-false (list_any (λ m. m == named qubits ns name) (map (named qubits ns) names)) _
+    or_from (list_any (λ m. m == named qubits ns name) (map (named qubits ns) names)) _
     (named-others qubits ns name names e twice (not-false (is_in ns name) (or-first _ _ known)) (or-second (not (is_in ns name)) _ known) (or-first _ _ apart))
     (named-distinct qubits ns names e twice (or-second (not (is_in ns name)) _ known) (or-second (list_any (λ other. bytes_eq other name) names) _ apart))
 
@@ -215,26 +204,17 @@ GatesActOn limit scope = (name : List ℕ) (depth : ℕ) (angles : List Angle) (
 
 u_of-on : (limit q : ℕ) (theta phi lambda : Option ℕ) → q < limit → ActsOn limit (u_of q theta phi lambda)
 u_of-on limit q (Some theta) (Some phi) (Some lambda) h = (h, tt)
-u_of-on limit q (Some theta) (Some phi) None h = tt
-u_of-on limit q (Some theta) None lambda h = tt
-u_of-on limit q None phi lambda h = tt
+u_of-on limit q _ _ _ h = tt
 
 u-on : (limit : ℕ) (angles : List Angle) (qubits : List ℕ) → Each (λ q. q < limit) qubits → ActsOn limit (u_events angles qubits)
-u-on limit [] qubits h = tt
-u-on limit (theta ∷ []) qubits h = tt
-u-on limit (theta ∷ phi ∷ []) qubits h = tt
-u-on limit (theta ∷ phi ∷ lambda ∷ []) [] h = tt
 u-on limit (theta ∷ phi ∷ lambda ∷ []) (q ∷ []) h = u_of-on limit q (phase_of_angle theta) (phase_of_angle phi) (phase_of_angle lambda) h.0
-u-on limit (theta ∷ phi ∷ lambda ∷ []) (q ∷ r ∷ qubits) h = tt
-u-on limit (theta ∷ phi ∷ lambda ∷ more ∷ angles) qubits h = tt
+u-on limit _ _ h = tt
 
 cx-on : (limit : ℕ) (qubits : List ℕ) → AreArguments limit qubits → ActsOn limit (cx_events qubits)
-cx-on limit [] h = tt
-cx-on limit (q ∷ []) h = tt
 cx-on limit (control ∷ target ∷ []) h =
     let other : (target == control) ≡ false = or-first _ _ (or-first _ _ h.distinct) in
     ((h.below.0, h.below.1.0, λ same. grind (arith, nat_tests)), tt)
-cx-on limit (q ∷ r ∷ s ∷ qubits) h = tt
+cx-on limit _ h = tt
 
 expand-on : (limit : ℕ) (scope : Scope) (gate : Callee) (depth : ℕ) (angles : List Angle) (qubits : List ℕ) → GatesActOn limit scope → AreArguments limit qubits
     → Takes (shape_of (lookup_in scope) gate) (length qubits) → ActsOn limit (expand (λ n d a q. expand_declared scope n d a q) gate depth angles qubits)
@@ -278,9 +258,8 @@ meaning-on : (b : Bool) (limit : ℕ) (scope : Scope) (m : Meaning) (replaceable
     → ActsOn limit (if b then expand_meaning (λ n d a q. expand_declared scope n d a q) m depth angles qubits else expand_declared scope name depth angles qubits)
 meaning-on true limit scope (Gate form) replaceable name depth angles qubits gates sound h k =
     body-on limit scope form depth angles qubits form.body gates h k sound.all_known sound.same_counts sound.other_qubits
-meaning-on true limit scope (Qubits first size) replaceable name depth angles qubits gates sound h k = tt
-meaning-on true limit scope (Bits first size) replaceable name depth angles qubits gates sound h k = tt
 meaning-on false limit scope m replaceable name depth angles qubits gates sound h k = gates name depth angles qubits h k
+meaning-on true limit scope _ replaceable name depth angles qubits gates sound h k = tt
 
 gates-on : (limit : ℕ) (scope : Scope) → IsSound scope → GatesActOn limit scope
 gates-on limit [] sound name depth angles qubits h k = tt

@@ -9,7 +9,7 @@ use Rattle.zx_gates.specs.declared.elementary.ElementaryGate.{ElementaryGate}
 use Rattle.zx_gates.specs.Circuit.{most_qubits}
 use Rattle.zx_gates.specs.declared.elementary.Measure.{Measure}
 use Rattle.zx_gates.specs.Elementary.{most_bits}
-use Rattle.qasm_reader.specs.Syntax.{GateForm, Sentence, Version, Include, QubitRegister, BitRegister, DeclareGate, Opaque, If, Barrier, Act, Placed}
+use Rattle.qasm_reader.specs.Syntax.{GateForm, Sentence, Version, DeclareGate, Placed}
 use Rattle.qasm_scope.specs.declared.causes.Cause.{Cause}
 use Rattle.qasm_scope.specs.declared.causes.Cause.TheVariants as cause
 use Rattle.qasm_names.specs.declared.names.Names.{Names}
@@ -38,14 +38,7 @@ no_statement = refl
 
 version-idle : (s : Sentence) → is_version s ≡ true → (after_statement [] s ≡ []) × (events_of [] s ≡ []) × (measured_by [] s ≡ [])
 version-idle (Version real) h = (refl, refl, refl)
-version-idle (Include text) h = absurd (cc)
-version-idle (QubitRegister name size) h = absurd (cc)
-version-idle (BitRegister name size) h = absurd (cc)
-version-idle (DeclareGate form) h = absurd (cc)
-version-idle (Opaque name parameters qubits) h = absurd (cc)
-version-idle (If register value action) h = absurd (cc)
-version-idle (Barrier operands) h = absurd (cc)
-version-idle (Act action) h = absurd (cc)
+version-idle _ h = absurd (cc)
 
 first_is : (s : Placed) (more : List Placed) (b : Bool) → is_version s.sentence ≡ b
     → first_fault most_calls (s ∷ more) ≡ (if b then fault_after most_calls [] [] 0 more else Some (cause.Version, s.place))

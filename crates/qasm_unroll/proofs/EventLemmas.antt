@@ -1,5 +1,5 @@
 -- Events one after the other.
-use Rattle.std.proofs.Common.{◌≡◌, ℕ, ◌+◌, Bool, true, false, if◌then◌else◌, List, [], ◌∷◌, ◌++◌, map, Option, Some, nat_le, nat_lt, refl, sym, ap, ◌∙◌, append_assoc, append-nil, add-zero, arith}
+use Rattle.std.proofs.Common.{◌≡◌, ℕ, ◌+◌, Bool, false, if◌then◌else◌, List, [], ◌∷◌, ◌++◌, map, Option, Some, nat_le, nat_lt, refl, sym, ap, ◌∙◌, append_assoc, append-nil, add-zero, arith}
 use Rattle.zx_gates.specs.declared.elementary.ElementaryGate.{ElementaryGate}
 use Rattle.qasm_scope.specs.declared.causes.Cause.{Cause}
 use Rattle.qasm_scope.specs.declared.causes.Cause.TheVariants.{TooDeep, TooManyGates}
@@ -32,9 +32,8 @@ call_count-append (Applied gate ∷ a) b = call_count-append a b
 called-at : (many deep : Bool) (first second : Option Cause) (all : Option Cause) → all ≡ option_or first second
     → (if many then Some TooManyGates else (if deep then Some TooDeep else all))
     ≡ option_or (if many then Some TooManyGates else (if deep then Some TooDeep else first)) second
-called-at true deep first second all h = refl
-called-at false true first second all h = refl
 called-at false false first second all h = h
+called-at _ _ first second all h = refl
 
 -- what is wrong first among events is wrong first in the prefix, or else after it
 pub first_wrong-append : (most calls : ℕ) (a b : List Event) → first_wrong most calls (a ++ b) ≡ option_or (first_wrong most calls a) (first_wrong most (calls + call_count a) b)

@@ -3,7 +3,7 @@ use Rattle.std.proofs.Common.{◌≡◌, ℕ, ◌+◌, ◌<◌, ◌==◌, Bool, 
 use Rattle.std.specs.List.{flat_map, list_any}
 use Rattle.std.specs.Str.{bytes_eq}
 use Rattle.qasm_angle.specs.declared.angle.Angle.{Angle}
-use Rattle.qasm_reader.specs.Syntax.{Formula, Callee, Declared, U, Cx, GateForm, BodySentence, BodyApplied, BodyBarrier}
+use Rattle.qasm_reader.specs.Syntax.{Formula, Callee, Declared, GateForm, BodySentence, BodyApplied, BodyBarrier}
 use Rattle.qasm_scope.specs.declared.causes.Cause.{Cause}
 use Rattle.qasm_names.specs.declared.gates.GateCall.{GateCall}
 use Rattle.qasm_scope.specs.Angles.{in_prefix, angle_of, angles_of, numbered, place_of, places_among}
@@ -13,13 +13,12 @@ use Rattle.qasm_names.specs.Kept.{KeptCall, kept_call, gate_count, gates_in, sym
 use Rattle.qasm_unroll.specs.Internal.KeptCalls.{is_numbered, expand_number}
 use Rattle.qasm_names.proofs.Tests.{if-true, if-false, or-first, or-second, same_number, other_number}
 use Rattle.qasm_unroll.specs.Internal.KeptCalls.{Numbered, call_events, calls_events, expand_called, called_events, values_of, picked}
-use Rattle.qasm_scope.specs.Scope.{Scope, Declaration, Meaning, Qubits, Bits, Gate, meaning_of, lookup_in, shape_in}
+use Rattle.qasm_scope.specs.Scope.{Scope, Declaration, Meaning, Gate, meaning_of, lookup_in, shape_in}
 
 -- a number below the count isn't that of the next gate
 pub not-numbered : (n count : ℕ) (m : Meaning) → n < count → is_numbered n count m ≡ false
 not-numbered n count (Gate form) h = other_number count n h
-not-numbered n count (Qubits first size) h = refl
-not-numbered n count (Bits first size) h = refl
+not-numbered n count _ h = refl
 
 -- a number that is there means the same after a further declaration
 pub number-after : (d : Declaration) (scope : Scope) (n depth : ℕ) (angles : List Angle) (qubits : List ℕ) → n < gate_count scope
@@ -33,9 +32,8 @@ number-there-at : (b replaceable : Bool) (m : Meaning) (name : List ℕ) (scope 
     → is_no_gate (shape_in (if b then Some m else meaning_of name scope)) ≡ false
     → number_in (if b then Some (symbol_in (gate_count scope) replaceable m) else symbol_of name scope) < gates_in m + gate_count scope
 number-there-at true replaceable (Gate form) name scope before h = omega arith
-number-there-at true replaceable (Qubits first size) name scope before h = absurd (cc)
-number-there-at true replaceable (Bits first size) name scope before h = absurd (cc)
 number-there-at false replaceable m name scope before h = let k = before h in omega arith
+number-there-at true replaceable _ name scope before h = absurd (cc)
 
 pub number-there : (name : List ℕ) (scope : Scope) → is_no_gate (shape_in (meaning_of name scope)) ≡ false → number_in (symbol_of name scope) < gate_count scope
 number-there name [] h = absurd (cc)
@@ -52,10 +50,9 @@ number-name-at true d (Gate form) name scope depth angles qubits e before h =
     sym (ap (λ m. if is_numbered (gate_count scope) (gate_count scope) m then expand_meaning (λ n d a q. expand_declared scope n d a q) m depth angles qubits
     else expand_number scope (gate_count scope) depth angles qubits) e
     ∙ if-true (gate_count scope == gate_count scope) _ _ (same_number (gate_count scope)))
-number-name-at true d (Qubits first size) name scope depth angles qubits e before h = absurd (cc)
-number-name-at true d (Bits first size) name scope depth angles qubits e before h = absurd (cc)
 number-name-at false d m name scope depth angles qubits e before h =
     before h ∙ sym (number-after d scope (number_in (symbol_of name scope)) depth angles qubits (number-there name scope h))
+number-name-at true d _ name scope depth angles qubits e before h = absurd (cc)
 
 pub number-name : (name : List ℕ) (scope : Scope) (depth : ℕ) (angles : List Angle) (qubits : List ℕ) → is_no_gate (shape_in (meaning_of name scope)) ≡ false
     → expand_declared scope name depth angles qubits ≡ expand_number scope (number_in (symbol_of name scope)) depth angles qubits
@@ -94,10 +91,9 @@ after_angles-same (Ok values) f g h = h values
 expand-same : (numbers : Numbered) (scope : Scope) (gate : Callee) (depth : ℕ) (angles : List Angle) (qubits : List ℕ)
     → Agrees numbers scope → is_no_gate (shape_of (lookup_in scope) gate) ≡ false
     → expand (λ n d a q. expand_declared scope n d a q) gate depth angles qubits ≡ expand_called numbers (called_for (kept_names scope) gate) depth angles qubits
-expand-same numbers scope U depth angles qubits h k = refl
-expand-same numbers scope Cx depth angles qubits h k = refl
 expand-same numbers scope (Declared name) depth angles qubits h k =
     number-name name scope depth angles qubits k ∙ sym (h.on (number_in (symbol_of name scope)) depth angles qubits (number-there name scope k))
+expand-same numbers scope _ depth angles qubits h k = refl
 
 -- a call by name is a call by number
 pub call-same : (numbers : Numbered) (scope : Scope) (gate : Callee) (depth : ℕ) (angles : Result (List Angle) Cause) (qubits : List ℕ)

@@ -1,12 +1,13 @@
 -- What calls without angles come to is kept, and is the same after further declarations.
-use Rattle.std.proofs.Common.{◌≡◌, ℕ, zero, suc, ◌+◌, ◌-◌, ◌<◌, ◌≤◌, Bool, true, false, if◌then◌else◌, List, [], ◌∷◌, ◌++◌, length, length-append, IfSome, map, slice_index_or, Option, None, Some, inl, inr, ◌⊎◌, refl, sym, ap, ap₂, subst, ◌∙◌, append-nil, add-zero, arith, nat_le, nat_lt}
+use Rattle.std.proofs.Common.{◌≡◌, ℕ, zero, suc, ◌+◌, ◌-◌, ◌<◌, ◌≤◌, Bool, true, false, if◌then◌else◌, List, [], ◌∷◌, ◌++◌, length, length-append, map, slice_index_or, slice_set, Option, None, Some, inl, inr, ◌⊎◌, refl, sym, ap, ap₂, subst, ◌∙◌, append-nil, add-zero, arith, nat_le, nat_lt}
 use Rattle.std.specs.List.{slice_get}
 use Rattle.std.proofs.lemmas.Bool.Decides.{nat_tests}
-use Rattle.std.proofs.lemmas.List.{length-map}
+use Rattle.std.proofs.lemmas.List.{length-map, length-set}
+use Rattle.std.proofs.lemmas.Option.{slice_get_within}
 use Rattle.zx_gates.specs.declared.elementary.ElementaryGate.{ElementaryGate}
 use Rattle.qasm_angle.specs.declared.angle.Angle.{Angle}
 use Rattle.qasm_angle.specs.Trees.{Tree}
-use Rattle.qasm_reader.specs.Syntax.{GateForm, Sentence, Version, Include, QubitRegister, BitRegister, DeclareGate, Opaque, If, Barrier, Act}
+use Rattle.qasm_reader.specs.Syntax.{GateForm, Sentence, Include, QubitRegister, BitRegister, DeclareGate}
 use Rattle.qasm_scope.specs.declared.causes.Cause.{Cause}
 use Rattle.qasm_scope.specs.declared.causes.Cause.TheVariants.{TooDeep, TooManyGates}
 use Rattle.qasm_scope.specs.Calls.{Event, Called, applied, call_count, deepest, first_wrong}
@@ -19,6 +20,8 @@ use Rattle.qasm_names.specs.declared.gates.GateBody.{GateBody}
 use Rattle.qasm_names.specs.Kept.{gate_count, kept_body, kept_gates}
 use Rattle.qasm_names.proofs.Symbols.{kept-length}
 use Rattle.qasm_unroll.specs.declared.expansions.Expansion.{Expansion}
+use Rattle.qasm_unroll.specs.declared.expansions.Known.{Known}
+use Rattle.qasm_unroll.specs.declared.expansions.Known.TheVariants as known_call
 use Rattle.qasm_unroll.specs.declared.unroll.Unrolled.{Unrolled}
 use Rattle.qasm_unroll.specs.Internal.KeptCalls.{AreRenamed, Continues, Numbered, Unrolls, called_events, expand_number, renamed, renamed_event, values_of}
 use Rattle.qasm_unroll.specs.Internal.KnownCalls.{AreKnown, IsExpansion, at, known_of, placed_events, places}
@@ -28,19 +31,12 @@ use Rattle.qasm_unroll.proofs.PlacedLemmas.{applied-renamed, count-renamed, faul
 -- ---- a copy
 
 past-places : (qubits : List ℕ) (place : ℕ) → length qubits ≤ 4 → slice_index_or qubits (suc (suc (suc (suc place)))) 0 ≡ 0
-past-places [] place few = refl
-past-places (a ∷ []) place few = refl
-past-places (a ∷ b ∷ []) place few = refl
-past-places (a ∷ b ∷ c ∷ []) place few = refl
-past-places (a ∷ b ∷ c ∷ d ∷ []) place few = refl
 past-places (a ∷ b ∷ c ∷ d ∷ e ∷ qubits) place few = absurd (omega arith)
+past-places _ place few = refl
 
 in-places : (qubits : List ℕ) (place : ℕ) → length qubits ≤ 4 → slice_index_or qubits place 0 ≡ at (0 ∷ qubits) (slice_index_or places place 0)
-in-places qubits zero few = refl
-in-places qubits (suc zero) few = refl
-in-places qubits (suc (suc zero)) few = refl
-in-places qubits (suc (suc (suc zero))) few = refl
 in-places qubits (suc (suc (suc (suc place)))) few = past-places qubits place few
+in-places qubits _ few = refl
 
 places-renamed : (qubits : List ℕ) → length qubits ≤ 4 → AreRenamed (at (0 ∷ qubits)) places qubits
 places-renamed qubits few = record { none = refl; each = λ place. in-places qubits place few }
@@ -62,15 +58,14 @@ copied bodies numbered number kept qubits calls later gates more unrolls is few 
     }
 
 -- so it is of the gate that is called, where that has no angles
-pub copied-call : (bodies : List GateBody) (numbered : Numbered) (count : ℕ) (called : CalledGate) (angles : List Tree) (known : List (Option Expansion)) (kept : Expansion) (qubits : List ℕ)
-    (calls later : ℕ) (gates more : List ElementaryGate) → Unrolls bodies numbered → AreKnown numbered count known → length angles ≡ 0 → known_of known called ≡ Some (Some kept)
+pub copied-call : (bodies : List GateBody) (numbered : Numbered) (count : ℕ) (called : CalledGate) (angles : List Tree) (known : List Known) (kept : Expansion) (qubits : List ℕ)
+    (calls later : ℕ) (gates more : List ElementaryGate) → Unrolls bodies numbered → AreKnown numbered count known → length angles ≡ 0 → known_of known called ≡ Some (known_call.Kept kept)
     → length qubits ≤ 4 → later ≡ calls + kept.calls → later ≤ most_calls → more ≡ gates ++ map (renamed (at (0 ∷ qubits))) kept.gates
     → Continues most_calls calls gates (called_events numbered called 1 (values_of angles []) qubits) later more []
-copied-call bodies numbered count called_gate.U angles known kept qubits calls later gates more unrolls h none e few el within em = absurd (cc)
-copied-call bodies numbered count called_gate.Cx angles known kept qubits calls later gates more unrolls h none e few el within em = absurd (cc)
 copied-call bodies numbered count (called_gate.Gate number) (t ∷ angles) known kept qubits calls later gates more unrolls h none e few el within em = absurd (omega arith)
 copied-call bodies numbered count (called_gate.Gate number) [] known kept qubits calls later gates more unrolls h none e few el within em =
     copied bodies numbered number kept qubits calls later gates more unrolls (h.each number kept e) few el within em
+copied-call bodies numbered count _ angles known kept qubits calls later gates more unrolls h none e few el within em = absurd (cc)
 
 -- where what is known changes alone, equal events lead to the same
 pub Continues-learnt : (most : ℕ) (first later : Unrolled) (events more : List Event) → later ≡ record first { known = later.known } → events ≡ more
@@ -112,42 +107,47 @@ expansion-made numbered number before calls first later angles qubits kept eg ea
     (subst (λ qs. Continues most_calls (before + 1) [] (numbered number 1 angles qs) calls later []) eq
     (subst (λ gs. Continues most_calls (before + 1) gs (numbered number 1 angles qubits) calls later []) eg h))) same_gates same_calls
 
--- what is known of one more gate
-pushed : (known : List (Option Expansion)) (place : ℕ) (found : Option Expansion) (kept : Expansion) → slice_get (known ++ found ∷ []) place ≡ Some (Some kept)
-    → (slice_get known place ≡ Some (Some kept)) ⊎ ((length known ≡ place) × (found ≡ Some kept))
-pushed [] zero found kept h = inr (refl, let k : Some found ≡ Some (Some kept) = h in cc)
-pushed [] (suc place) found kept h = inl h
-pushed (one ∷ known) zero found kept h = inl h
-pushed (one ∷ known) (suc place) found kept h = next (pushed known place found kept h)
-  where
-    next : (slice_get known place ≡ Some (Some kept)) ⊎ ((length known ≡ place) × (found ≡ Some kept))
-        → (slice_get known place ≡ Some (Some kept)) ⊎ ((length (one ∷ known) ≡ suc place) × (found ≡ Some kept))
-    next (inl e) = inl e
-    next (inr e) = inr (omega (arith, e.0), e.1)
+-- a gate more, of which nothing is known yet
+pushed : (known : List Known) (place : ℕ) (kept : Expansion) → slice_get (known ++ known_call.Untried ∷ []) place ≡ Some (known_call.Kept kept)
+    → slice_get known place ≡ Some (known_call.Kept kept)
+pushed [] zero kept h = absurd (let k : Some known_call.Untried ≡ Some (known_call.Kept kept) = h in cc)
+pushed (one ∷ known) (suc place) kept h = pushed known place kept h
+pushed _ _ kept h = h
 
-pub known-push : (bodies : List GateBody) (number : ℕ) (known later : List (Option Expansion)) (found : Option Expansion) → later ≡ known ++ found ∷ [] → length known ≡ number → number < length bodies
-    → IfSome found (λ kept. (numbered : Numbered) → Unrolls bodies numbered → IsExpansion numbered number kept)
-    → (numbered : Numbered) → Unrolls bodies numbered → AreKnown numbered (length bodies) known → AreKnown numbered (length bodies) later
-known-push bodies number known later found e el within is numbered unrolls h = record {
-  few = omega (arith, ap length e, length-append known (found ∷ []), el, within);
-  each = λ place kept there. from place kept (pushed known place found kept (ap (λ l. slice_get l place) (sym e) ∙ there));
+pub known-push : (numbered : Numbered) (count number : ℕ) (known later : List Known) → later ≡ known ++ known_call.Untried ∷ [] → length known ≡ number → number < count
+    → AreKnown numbered count known → AreKnown numbered count later
+known-push numbered count number known later e el within h = record {
+  few = omega (arith, ap length e, length-append known (known_call.Untried ∷ []), el, within);
+  each = λ place kept there. h.each place kept (pushed known place kept (ap (λ l. slice_get l place) (sym e) ∙ there));
+}
+
+-- what is known of a gate from now on
+setting : (known : List Known) (number place : ℕ) (found : Known) (kept : Expansion) → slice_get (slice_set known number found) place ≡ Some (known_call.Kept kept)
+    → (slice_get known place ≡ Some (known_call.Kept kept)) ⊎ ((number ≡ place) × (found ≡ known_call.Kept kept))
+setting (one ∷ known) zero zero found kept h = inr (refl, let k : Some found ≡ Some (known_call.Kept kept) = h in cc)
+setting (one ∷ known) (suc number) (suc place) found kept h = next (setting known number place found kept h)
+  where
+    next : (slice_get known place ≡ Some (known_call.Kept kept)) ⊎ ((number ≡ place) × (found ≡ known_call.Kept kept))
+        → (slice_get known place ≡ Some (known_call.Kept kept)) ⊎ ((suc number ≡ suc place) × (found ≡ known_call.Kept kept))
+    next (inl e) = inl e
+    next (inr e) = inr (ap suc e.0, e.1)
+setting _ _ _ found kept h = inl h
+
+pub known-set : (numbered : Numbered) (count number : ℕ) (known later : List Known) (found : Known) → later ≡ slice_set known number found
+    → ((kept : Expansion) → found ≡ known_call.Kept kept → IsExpansion numbered number kept) → AreKnown numbered count known → AreKnown numbered count later
+known-set numbered count number known later found e is h = record {
+  few = omega (arith, ap length e, length-set known number found, h.few);
+  each = λ place kept there. from place kept (setting known number place found kept (ap (λ l. slice_get l place) (sym e) ∙ there));
 }
   where
-    from : (place : ℕ) (kept : Expansion) → (slice_get known place ≡ Some (Some kept)) ⊎ ((length known ≡ place) × (found ≡ Some kept)) → IsExpansion numbered place kept
+    from : (place : ℕ) (kept : Expansion) → (slice_get known place ≡ Some (known_call.Kept kept)) ⊎ ((number ≡ place) × (found ≡ known_call.Kept kept)) → IsExpansion numbered place kept
     from place kept (inl there) = h.each place kept there
-    from place kept (inr there) = subst (λ n. IsExpansion numbered n kept) (sym el ∙ there.0)
-        (let P : Option Expansion → Type 0 = λ o. IfSome o (λ kept. (numbered : Numbered) → Unrolls bodies numbered → IsExpansion numbered number kept) in subst P there.1 is numbered unrolls)
+    from place kept (inr there) = subst (λ n. IsExpansion numbered n kept) there.0 (is kept there.1)
 
-within-list : {A : Type 0} (list : List A) (n : ℕ) (x : A) → slice_get list n ≡ Some x → n < length list
-within-list [] zero x h = absurd (cc)
-within-list [] (suc n) x h = absurd (cc)
-within-list (y ∷ list) zero x h = omega arith
-within-list (y ∷ list) (suc n) x h = let k = within-list list n x h in omega arith
-
-pub nothing-known : (numbered : Numbered) (count : ℕ) (known : List (Option Expansion)) → known ≡ [] → AreKnown numbered count known
+pub nothing-known : (numbered : Numbered) (count : ℕ) (known : List Known) → known ≡ [] → AreKnown numbered count known
 nothing-known numbered count known e = record {
   few = omega (arith, ap length e);
-  each = λ number kept h. absurd (let k = within-list known number (Some kept) h in omega (arith, k, ap length e));
+  each = λ number kept h. absurd (let k = slice_get_within known number (known_call.Kept kept) h in omega (arith, k, ap length e));
 }
 
 -- ---- by the gates of a scope
@@ -155,11 +155,11 @@ nothing-known numbered count known e = record {
 as-many : (bodies : List GateBody) (scope : Scope) → map kept_body bodies ≡ kept_gates scope → length bodies ≡ gate_count scope
 as-many bodies scope e = sym (length-map bodies kept_body) ∙ ap length e ∙ kept-length scope
 
-pub known-by-bodies : (bodies : List GateBody) (scope : Scope) (known : List (Option Expansion)) → map kept_body bodies ≡ kept_gates scope
+pub known-by-bodies : (bodies : List GateBody) (scope : Scope) (known : List Known) → map kept_body bodies ≡ kept_gates scope
     → AreKnown (expand_number scope) (gate_count scope) known → AreKnown (expand_number scope) (length bodies) known
 known-by-bodies bodies scope known e h = subst (λ n. AreKnown (expand_number scope) n known) (sym (as-many bodies scope e)) h
 
-pub known-in-scope : (bodies : List GateBody) (scope : Scope) (known : List (Option Expansion)) → map kept_body bodies ≡ kept_gates scope
+pub known-in-scope : (bodies : List GateBody) (scope : Scope) (known : List Known) → map kept_body bodies ≡ kept_gates scope
     → AreKnown (expand_number scope) (length bodies) known → AreKnown (expand_number scope) (gate_count scope) known
 known-in-scope bodies scope known e h = subst (λ n. AreKnown (expand_number scope) n known) (as-many bodies scope e) h
 
@@ -174,42 +174,38 @@ expansion-after numbered later number kept e is =
       faultless = λ before few. ap (first_wrong most_calls before) same ∙ is.faultless before few;
     }
 
-abbrev pub InScope : Scope → List (Option Expansion) → Type 0
+abbrev pub InScope : Scope → List Known → Type 0
 InScope scope known = AreKnown (expand_number scope) (gate_count scope) known
 
-pub known-declared : (d : Declaration) (scope : Scope) (known : List (Option Expansion)) → InScope scope known → InScope (d ∷ scope) known
+pub known-declared : (d : Declaration) (scope : Scope) (known : List Known) → InScope scope known → InScope (d ∷ scope) known
 known-declared d scope known h = record {
   few = omega (arith, h.few);
   each = λ number kept e.
-      let below = within-list known number (Some kept) e in
+      let below = slice_get_within known number (known_call.Kept kept) e in
       let there : number < gate_count scope = omega (arith, below, h.few) in
       expansion-after (expand_number scope) (expand_number (d ∷ scope)) number kept (number-after d scope number 1 [] places there) (h.each number kept e);
 }
 
-known-first : (forms : List GateForm) (scope : Scope) (known : List (Option Expansion)) → InScope scope known → InScope (with_first forms scope) known
+known-first : (forms : List GateForm) (scope : Scope) (known : List Known) → InScope scope known → InScope (with_first forms scope) known
 known-first [] scope known h = h
 known-first (form ∷ forms) scope known h = known-first forms (declared form.name (Gate form) ∷ scope) known (known-declared (declared form.name (Gate form)) scope known h)
 
-known-if : (b : Bool) (d : Declaration) (scope : Scope) (known : List (Option Expansion)) → InScope scope known → InScope (if b then scope else d ∷ scope) known
+known-if : (b : Bool) (d : Declaration) (scope : Scope) (known : List Known) → InScope scope known → InScope (if b then scope else d ∷ scope) known
 known-if true d scope known h = h
 known-if false d scope known h = known-declared d scope known h
 
-known-further : (forms : List GateForm) (scope : Scope) (known : List (Option Expansion)) → InScope scope known → InScope (with_further forms scope) known
+known-further : (forms : List GateForm) (scope : Scope) (known : List Known) → InScope scope known → InScope (with_further forms scope) known
 known-further [] scope known h = h
 known-further (form ∷ forms) scope known h = known-further forms (if is_declared form.name scope then scope else record { name = form.name; meaning = Gate form; replaceable = true } ∷ scope) known
     (known-if (is_declared form.name scope) (record { name = form.name; meaning = Gate form; replaceable = true }) scope known h)
 
-known-header : (scope : Scope) (known : List (Option Expansion)) → InScope scope known → InScope (with_header scope) known
+known-header : (scope : Scope) (known : List Known) → InScope scope known → InScope (with_header scope) known
 unfolding with_header
 known-header scope known h = known-further further_gates (with_first first_gates scope) known (known-first first_gates scope known h)
 
-pub known-after : (scope : Scope) (sentence : Sentence) (known : List (Option Expansion)) → InScope scope known → InScope (after_statement scope sentence) known
-known-after scope (Version real) known h = h
+pub known-after : (scope : Scope) (sentence : Sentence) (known : List Known) → InScope scope known → InScope (after_statement scope sentence) known
 known-after scope (Include text) known h = known-header scope known h
 known-after scope (QubitRegister name size) known h = known-declared (declared name (Qubits (qubit_count scope) (numeral size))) scope known h
 known-after scope (BitRegister name size) known h = known-declared (declared name (Bits (bit_count scope) (numeral size))) scope known h
 known-after scope (DeclareGate form) known h = known-declared (declared form.name (Gate form)) scope known h
-known-after scope (Opaque name parameters qubits) known h = h
-known-after scope (If register value action) known h = h
-known-after scope (Barrier operands) known h = h
-known-after scope (Act action) known h = h
+known-after scope _ known h = h

@@ -9,7 +9,7 @@ use Rattle.std.specs.Option.{option_or}
 use Rattle.zx_gates.specs.declared.elementary.Measure.{Measure}
 use Rattle.zx_gates.specs.Circuit.{most_qubits}
 use Rattle.zx_gates.specs.Elementary.{IsElementaryGateOn, IsMeasureOn, most_bits}
-use Rattle.qasm_reader.specs.Syntax.{Operand, Apply, Applied, Measured, Reset, GateForm, Sentence, Version, Include, QubitRegister, BitRegister, DeclareGate, Opaque, If, Barrier, Act, Placed}
+use Rattle.qasm_reader.specs.Syntax.{Operand, Apply, Applied, Measured, GateForm, Sentence, Version, Include, QubitRegister, BitRegister, DeclareGate, Act, Placed}
 use Rattle.qasm_scope.specs.declared.causes.Cause.{Cause}
 use Rattle.qasm_scope.specs.Angles.{angles_of, places_among}
 use Rattle.qasm_scope.specs.Applications.{Range, Single, Register, range_in, range_of, ranges_of, register_of, register_sizes, element_at, instances, has_twice, application_events}
@@ -50,7 +50,6 @@ passes scope sentence h = no_cause (statement_tests scope sentence) h
 
 -- the scope after a statement is sound
 sound-after : (scope : Scope) (sentence : Sentence) → IsSound scope → wrong_in scope sentence ≡ None → IsSound (after_statement scope sentence)
-sound-after scope (Version real) sound h = sound
 sound-after scope (Include text) sound h = with_header-sound scope sound (passes scope (Include text) h).1.0
 sound-after scope (QubitRegister name size) sound h =
     let few = (passes scope (QubitRegister name size) h).1.1.0 in
@@ -59,10 +58,7 @@ sound-after scope (BitRegister name size) sound h =
     let few = (passes scope (BitRegister name size) h).1.1.0 in
     ((record { after_others = refl; few = grind (arith, nat_tests) }, refl), tt, sound)
 sound-after scope (DeclareGate form) sound h = (sound-from scope form h, tt, sound)
-sound-after scope (Opaque name parameters qubits) sound h = sound
-sound-after scope (If register value action) sound h = sound
-sound-after scope (Barrier operands) sound h = sound
-sound-after scope (Act action) sound h = sound
+sound-after scope _ sound h = sound
 
 -- two scopes have as many qubits and as many bits
 abbrev SameCounts : Scope → Scope → Type 0
@@ -97,15 +93,8 @@ abbrev HasNoMore : Scope → Scope → Type 0
 HasNoMore scope after = (qubit_count scope ≤ qubit_count after) × (bit_count scope ≤ bit_count after)
 
 count-after : (scope : Scope) (sentence : Sentence) → HasNoMore scope (after_statement scope sentence)
-count-after scope (Version real) = (omega arith, omega arith)
 count-after scope (Include text) = let same = with_header-count scope in (omega (arith, same.0), omega (arith, same.1))
-count-after scope (QubitRegister name size) = (omega arith, omega arith)
-count-after scope (BitRegister name size) = (omega arith, omega arith)
-count-after scope (DeclareGate form) = (omega arith, omega arith)
-count-after scope (Opaque name parameters qubits) = (omega arith, omega arith)
-count-after scope (If register value action) = (omega arith, omega arith)
-count-after scope (Barrier operands) = (omega arith, omega arith)
-count-after scope (Act action) = (omega arith, omega arith)
+count-after scope _ = (omega arith, omega arith)
 
 -- ---- the qubits of an application
 
@@ -193,17 +182,8 @@ application-on limit scope a sound few h =
     (calls-on limit scope a (instances ranges) sound gate p.1.0 (instances-on limit count 0 count ranges (omega arith) on p.1.1.1.1.0))
 
 statement-on : (limit : ℕ) (scope : Scope) (sentence : Sentence) → IsSound scope → qubit_count scope ≤ limit → wrong_in scope sentence ≡ None → ActsOn limit (events_of scope sentence)
-statement-on limit scope (Version real) sound few h = tt
-statement-on limit scope (Include text) sound few h = tt
-statement-on limit scope (QubitRegister name size) sound few h = tt
-statement-on limit scope (BitRegister name size) sound few h = tt
-statement-on limit scope (DeclareGate form) sound few h = tt
-statement-on limit scope (Opaque name parameters qubits) sound few h = tt
-statement-on limit scope (If register value action) sound few h = tt
-statement-on limit scope (Barrier operands) sound few h = tt
 statement-on limit scope (Act (Applied a)) sound few h = application-on limit scope a sound few h
-statement-on limit scope (Act (Measured from to)) sound few h = tt
-statement-on limit scope (Act (Reset operand)) sound few h = tt
+statement-on limit scope _ sound few h = tt
 
 -- ---- the qubits and bits of a measurement
 same-size : (t : Range) → size_differs (count_in t) t ≡ false
@@ -212,9 +192,8 @@ same-size (Register first size) = ap not (same_number size)
 
 like-size : (from to : Range) → are_unlike from to ≡ false → size_differs (count_in from) to ≡ false
 like-size (Single qubit) (Single bit) h = refl
-like-size (Single qubit) (Register first size) h = absurd (cc)
-like-size (Register first size) (Single bit) h = absurd (cc)
 like-size (Register first size) (Register other bits) h = h
+like-size _ _ h = absurd (cc)
 
 measures-from : (limit bits size start count : ℕ) (from to : Range) → start + count ≤ size → RangeOn limit size from → RangeOn bits size to
     → Each (IsMeasureOn limit bits) (map (λ index. record { qubit = element_at index from; bit = element_at index to }) (range_with_len start count))
@@ -239,17 +218,8 @@ measure-on limit bits scope from to sound few few_bits h =
 
 measures-on : (limit bits : ℕ) (scope : Scope) (sentence : Sentence) → IsSound scope → qubit_count scope ≤ limit → bit_count scope ≤ bits → wrong_in scope sentence ≡ None
     → Each (IsMeasureOn limit bits) (measured_by scope sentence)
-measures-on limit bits scope (Version real) sound few few_bits h = tt
-measures-on limit bits scope (Include text) sound few few_bits h = tt
-measures-on limit bits scope (QubitRegister name size) sound few few_bits h = tt
-measures-on limit bits scope (BitRegister name size) sound few few_bits h = tt
-measures-on limit bits scope (DeclareGate form) sound few few_bits h = tt
-measures-on limit bits scope (Opaque name parameters qubits) sound few few_bits h = tt
-measures-on limit bits scope (If register value action) sound few few_bits h = tt
-measures-on limit bits scope (Barrier operands) sound few few_bits h = tt
-measures-on limit bits scope (Act (Applied a)) sound few few_bits h = tt
 measures-on limit bits scope (Act (Measured from to)) sound few few_bits h = measure-on limit bits scope from to sound few few_bits h
-measures-on limit bits scope (Act (Reset operand)) sound few few_bits h = tt
+measures-on limit bits scope _ sound few few_bits h = tt
 
 -- ---- programs
 

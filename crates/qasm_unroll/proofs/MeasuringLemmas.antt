@@ -1,11 +1,9 @@
 -- Measurements by what names are kept as, and what is kept of them.
-use Rattle.std.proofs.Common.{◌≡◌, ℕ, zero, suc, ◌+◌, ◌-◌, ◌^◌, ◌≤◌, ◌==◌, min, Bool, true, false, ◌||◌, if◌then◌else◌, List, [], ◌∷◌, ◌++◌, length, map, Option, None, Some, refl, sym, ap, ap₂, subst, ◌∙◌, append_assoc, append-nil, arith}
+use Rattle.std.proofs.Common.{◌≡◌, ℕ, zero, suc, ◌+◌, ◌-◌, ◌^◌, ◌≤◌, ◌==◌, min, Bool, true, false, ◌||◌, if◌then◌else◌, List, [], ◌∷◌, ◌++◌, map, Option, None, Some, refl, sym, ap, ap₂, subst, ◌∙◌, append_assoc, arith}
 use Rattle.std.specs.List.{list_any, range_with_len}
 use Rattle.std.specs.Option.{option_or}
-use Rattle.std.proofs.Math.Bool.{or-false}
-use Rattle.std.proofs.lemmas.Bool.Decides.{nat_tests}
 use Rattle.std.proofs.lemmas.List.{map-append}
-use Rattle.zx_model.specs.Bits.{member, xor}
+use Rattle.zx_model.specs.Bits.{member}
 use Rattle.zx_gates.specs.Circuit.{most_qubits}
 use Rattle.zx_gates.specs.Elementary.{most_bits}
 use Rattle.zx_gates.specs.declared.elementary.Measure.{Measure}
@@ -36,14 +34,12 @@ abbrev sized : Bool → Option Cause
 sized unlike = if unlike then Some cause.Sizes else None
 
 named-then : (u p s : Bool) → (if u then Some cause.Unknown else if p then Some cause.Index else sized s) ≡ option_or (named u p) (sized s)
-named-then true p s = refl
-named-then false true s = refl
 named-then false false s = refl
+named-then _ _ s = refl
 
 named-clear : (u p : Bool) → named u p ≡ None → (u ≡ false) × (p ≡ false)
-named-clear true p h = absurd (cc)
-named-clear false true h = absurd (cc)
 named-clear false false h = (refl, refl)
+named-clear _ _ h = absurd (cc)
 
 found-then : (s a t : Bool) → option_or (sized s) (if a then Some cause.AfterMeasure else if t then Some cause.BitTwice else None)
     ≡ (if s then Some cause.Sizes else if a then Some cause.AfterMeasure else if t then Some cause.BitTwice else None)
@@ -138,35 +134,9 @@ adds-found symbols scope before after from to qubits bits h sound by adds =
     (ap₂ cut_measures (found-qubits scope from to qubits bits sound found) (found-bits scope from to qubits bits sound found) ∙ measures-are scope from to sound found.named) adds
 
 -- ---- what is kept
-there-at : (b : Bool) (other number : ℕ) (numbers : List ℕ) → (other == number) ≡ b → member number numbers ≡ true → member other numbers ≡ (member other numbers || b)
-there-at true other number numbers e h =
-    let same : other ≡ number = grind (arith, nat_tests) in
-    let k : member other numbers ≡ true = ap (λ n. member n numbers) same ∙ h in
-    k ∙ sym (ap (λ a. a || true) k)
-there-at false other number numbers e h = sym (or-false (member other numbers))
-
-pub inserts-there : (number : ℕ) (numbers : List ℕ) → member number numbers ≡ true → Inserts numbers number numbers
-inserts-there number numbers h = λ other. there-at (other == number) other number numbers refl h
-
-xor-or : (a : Bool) → xor a false ≡ (a || false)
-xor-or true = refl
-xor-or false = refl
-
-new-at : (b : Bool) (other number : ℕ) (numbers : List ℕ) → (other == number) ≡ b → member number numbers ≡ false → xor (member other numbers) b ≡ (member other numbers || b)
-new-at true other number numbers e h =
-    let same : other ≡ number = grind (arith, nat_tests) in
-    let k : member other numbers ≡ false = ap (λ n. member n numbers) same ∙ h in
-    ap (λ a. xor a true) k ∙ sym (ap (λ a. a || true) k)
-new-at false other number numbers e h = xor-or (member other numbers)
-
-pub inserts-new : (number : ℕ) (numbers later : List ℕ) → member number numbers ≡ false → ((other : ℕ) → member other later ≡ xor (member other numbers) (other == number))
-    → Inserts numbers number later
-inserts-new number numbers later h toggled = λ other. toggled other ∙ new-at (other == number) other number numbers refl h
-
 or-last : (a b : Bool) → (a || b) ≡ (a || (b || false))
-or-last true b = refl
-or-last false true = refl
 or-last false false = refl
+or-last _ _ = refl
 
 more-members : (number one : ℕ) (set later numbers : List ℕ) → Inserts set one later → member number set ≡ member number numbers → member number later ≡ member number (numbers ++ one ∷ [])
 more-members number one set later numbers inserts same =
@@ -190,9 +160,6 @@ adds-join before between after first second h k = record {
   remembers = λ r. k.remembers (h.remembers r);
 }
 
-pub adds-none : (measured : Measured) → Adds measured measured []
-adds-none measured = record { same = sym (append-nil measured.list); remembers = λ h. h }
-
 -- ---- sets and lists
 pub holds-members : (t : Range) (set numbers : List ℕ) → ((number : ℕ) → member number set ≡ member number numbers) → holds_any set t ≡ holds_any numbers t
 holds-members t set numbers same = any-members (holds t) set numbers same
@@ -203,7 +170,3 @@ any-holds-members ranges set numbers same = list_any-same (holds_any set) (holds
 pub none-held : (ranges : List Range) → list_any (holds_any []) ranges ≡ false
 none-held [] = refl
 none-held (t ∷ ranges) = none-held ranges
-
-pub no-elements : {A : Type 0} (xs : List A) → length xs ≡ 0 → xs ≡ []
-no-elements [] h = refl
-no-elements (x ∷ xs) h = absurd (omega arith)

@@ -2,31 +2,22 @@
 use Rattle.std.proofs.Common.{◌≡◌, ℕ, ◌==◌, Bool, true, false, ◌||◌, List, [], ◌∷◌, ◌++◌, refl, sym, ap, ap₂, ◌∙◌, arith}
 use Rattle.std.specs.List.{IsDistinct, list_any}
 use Rattle.std.specs.List.{AllByRecursion}
-use Rattle.std.proofs.lemmas.Bool.{false_from_ne_true}
+use Rattle.std.proofs.lemmas.Bool.{false_from_ne_true, or_right, both_ways}
 use Rattle.std.proofs.lemmas.Bool.Decides.{nat_tests}
 use Rattle.zx_model.specs.Bits.{member}
 use Rattle.qasm_names.proofs.Tests.{or-first, or-second, same_number}
 
-pub or-right : (a b : Bool) → b ≡ true → (a || b) ≡ true
-or-right true b h = refl
-or-right false b h = h
-
-pub not_both : (b : Bool) → b ≡ true → b ≡ false → ⊥
-not_both true h k = cc
-not_both false h k = cc
-
 same-ways : (a b : Bool) → (b ≡ false → a ≡ false) → (a ≡ false → b ≡ false) → a ≡ b
-same-ways true true h k = refl
 same-ways true false h k = h refl
 same-ways false true h k = sym (k refl)
-same-ways false false h k = refl
+same-ways _ _ h k = refl
 
 any-at : (b : Bool) (x y : ℕ) (p : ℕ → Bool) (ys : List ℕ) → (x == y) ≡ b → (b || member x ys) ≡ true → p x ≡ true
     → (member x ys ≡ true → list_any p ys ≡ true) → (p y || list_any p ys) ≡ true
 any-at true x y p ys e h k rest =
     let same : x ≡ y = grind (arith, nat_tests) in
     ap (λ b. b || list_any p ys) (ap p (sym same) ∙ k)
-any-at false x y p ys e h k rest = or-right (p y) _ (rest h)
+any-at false x y p ys e h k rest = or_right (p y) _ (rest h)
 
 -- a member that passes a test
 pub any-member : (p : ℕ → Bool) (x : ℕ) (xs : List ℕ) → member x xs ≡ true → p x ≡ true → list_any p xs ≡ true
@@ -36,11 +27,11 @@ any-member p x (y ∷ ys) h k = any-at (x == y) x y p ys refl h k (λ m. any-mem
 -- no member passes it
 pub any-none : (p : ℕ → Bool) (xs : List ℕ) → ((x : ℕ) → member x xs ≡ true → p x ≡ false) → list_any p xs ≡ false
 any-none p [] h = refl
-any-none p (y ∷ ys) h = ap₂ ◌||◌ (h y (ap (λ b. b || member y ys) (same_number y))) (any-none p ys (λ x m. h x (or-right (x == y) _ m)))
+any-none p (y ∷ ys) h = ap₂ ◌||◌ (h y (ap (λ b. b || member y ys) (same_number y))) (any-none p ys (λ x m. h x (or_right (x == y) _ m)))
 
 any-fewer : (p : ℕ → Bool) (xs ys : List ℕ) → ((x : ℕ) → member x xs ≡ member x ys) → list_any p ys ≡ false → list_any p xs ≡ false
 any-fewer p xs ys same none =
-    any-none p xs (λ x m. false_from_ne_true (p x) (λ k. not_both (list_any p ys) (any-member p x ys (sym (same x) ∙ m) k) none))
+    any-none p xs (λ x m. false_from_ne_true (p x) (λ k. both_ways (list_any p ys) none (any-member p x ys (sym (same x) ∙ m) k)))
 
 -- lists with the same members pass a test alike
 pub any-members : (p : ℕ → Bool) (xs ys : List ℕ) → ((x : ℕ) → member x xs ≡ member x ys) → list_any p xs ≡ list_any p ys
@@ -71,6 +62,6 @@ once-distinct (x ∷ xs) h = (apart x xs h.0, once-distinct xs h.1)
 pub once-append : (xs ys : List ℕ) → Once xs → Once ys → ((y : ℕ) → member y ys ≡ true → member y xs ≡ false) → Once (xs ++ ys)
 once-append [] ys h k other = k
 once-append (x ∷ xs) ys h k other = (
-  member-append x xs ys ∙ ap₂ ◌||◌ h.0 (false_from_ne_true (member x ys) (λ m. not_both (x == x) (same_number x) (or-first _ _ (other x m)))),
+  member-append x xs ys ∙ ap₂ ◌||◌ h.0 (false_from_ne_true (member x ys) (λ m. both_ways (x == x) (or-first _ _ (other x m)) (same_number x))),
   once-append xs ys h.1 k (λ y m. or-second (y == x) _ (other y m)),
 )

@@ -11,7 +11,7 @@ use Rattle.qasm_scope.specs.Calls.{expand_meaning, expand_declared}
 use Rattle.qasm_names.specs.Kept.{KeptCall, kept_call, kept_body, gate_count, gates_in, kept_in, kept_gates, IsSound, IsSoundGate, IsSoundMeaning, form_calls}
 use Rattle.qasm_unroll.specs.Internal.KeptCalls.{is_numbered, expand_number}
 use Rattle.qasm_unroll.specs.Internal.KeptCalls.{Numbered, Unrolls, calls_of}
-use Rattle.qasm_scope.specs.Scope.{Scope, Meaning, Qubits, Bits, Gate}
+use Rattle.qasm_scope.specs.Scope.{Scope, Meaning, Gate}
 use Rattle.qasm_names.proofs.Tests.{if-false}
 use Rattle.qasm_unroll.proofs.Keeping.{Agrees, Agrees-before, Agrees-itself, kept_events, kept_events-calls, body-same}
 use Rattle.qasm_names.proofs.Symbols.{kept-length}
@@ -53,9 +53,7 @@ meaning-at : (m : Meaning) (replaceable : Bool) (numbers : Numbered) (scope : Sc
     ≡ kept_events numbers depth angles qubits (kept_at (slice_get (kept_gates scope ++ kept_in scope m) n))
 meaning-at (Gate form) replaceable numbers scope n depth angles qubits sound agrees h before =
     gate-at (gate_count scope == n) numbers form scope n depth angles qubits refl sound agrees h before
-meaning-at (Qubits first size) replaceable numbers scope n depth angles qubits sound agrees h before =
-    before (omega arith) ∙ ap (λ gs. kept_events numbers depth angles qubits (kept_at (slice_get gs n))) (sym (append-nil (kept_gates scope)))
-meaning-at (Bits first size) replaceable numbers scope n depth angles qubits sound agrees h before =
+meaning-at _ replaceable numbers scope n depth angles qubits sound agrees h before =
     before (omega arith) ∙ ap (λ gs. kept_events numbers depth angles qubits (kept_at (slice_get gs n))) (sym (append-nil (kept_gates scope)))
 
 pub number-kept : (numbers : Numbered) (scope : Scope) (n depth : ℕ) (angles : List Angle) (qubits : List ℕ) → IsSound scope → Agrees numbers scope → n < gate_count scope
@@ -67,8 +65,7 @@ number-kept numbers (d ∷ scope) n depth angles qubits sound agrees h =
 
 past-numbered : (n count : ℕ) (m : Meaning) → gates_in m + count ≤ n → is_numbered n count m ≡ false
 past-numbered n count (Gate form) h = grind (arith, nat_tests)
-past-numbered n count (Qubits first size) h = refl
-past-numbered n count (Bits first size) h = refl
+past-numbered n count _ h = refl
 
 -- a number that isn't there means nothing
 pub number-past : (scope : Scope) (n depth : ℕ) (angles : List Angle) (qubits : List ℕ) → gate_count scope ≤ n → expand_number scope n depth angles qubits ≡ []

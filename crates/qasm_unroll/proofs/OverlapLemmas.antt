@@ -5,6 +5,7 @@ use Rattle.std.proofs.lemmas.Bool.Decides.{nat_tests}
 use Rattle.qasm_scope.specs.Applications.{Range, Single, Register, element_at, has_twice}
 use Rattle.qasm_unroll.specs.Internal.Spans.{is_within, overlaps, any_overlap}
 use Rattle.qasm_names.proofs.Tests.{any_map, any_or, list_any-same}
+use Rattle.std.proofs.lemmas.Bool.{and_right}
 
 any-none : {A : Type 0} (xs : List A) → list_any (λ x. false) xs ≡ false
 any-none [] = refl
@@ -16,17 +17,13 @@ any-exchange p xs [] = any-none xs
 any-exchange p xs (y ∷ ys) =
     any_or (λ x. p x y) (λ x. list_any (p x) ys) xs ∙ ap (λ b. list_any (λ x. p x y) xs || b) (any-exchange p xs ys)
 
-and-none : (b : Bool) → (b && false) ≡ false
-and-none true = refl
-and-none false = refl
-
 or-idle : (b c d : Bool) → d ≡ true → (b || (b && c)) ≡ (b && d)
 or-idle true c d h = sym h
 or-idle false c d h = refl
 
 -- a test that doesn't look at the number
 any-constant : (b : Bool) (start n : ℕ) → list_any (λ i. b) (range_with_len start n) ≡ (b && nat_lt 0 n)
-any-constant b start zero = sym (and-none b)
+any-constant b start zero = sym (and_right b false refl)
 any-constant b start (suc n) = ap (λ c. b || c) (any-constant b (start + 1) n) ∙ or-idle b (nat_lt 0 n) (nat_lt 0 (suc n)) (grind (arith, nat_tests))
 
 -- one of the numbers from a place on is this one

@@ -11,7 +11,7 @@ use Rattle.qasm_scope.specs.declared.causes.Cause.{Cause}
 use Rattle.qasm_scope.specs.declared.causes.Cause.TheVariants.{TooDeep, TooManyGates}
 use Rattle.qasm_scope.specs.Angles.{angles_of, place_of}
 use Rattle.qasm_scope.specs.Calls.{Event, Called, Undefined, Applied, after_angles, applied, body_call, call_count, deepest, expand, expand_declared, expand_meaning, first_wrong, u_of}
-use Rattle.qasm_scope.specs.Scope.{Scope, Meaning, Qubits, Bits, Gate}
+use Rattle.qasm_scope.specs.Scope.{Scope, Meaning, Gate}
 use Rattle.qasm_names.specs.Kept.{gate_count}
 use Rattle.qasm_unroll.specs.Internal.KeptCalls.{AreRenamed, cx_events, expand_number, is_numbered, renamed, renamed_event, u_events}
 
@@ -22,24 +22,15 @@ by f events = map (renamed_event f) events
 
 u_of-renamed : (f : ℕ → ℕ) (q : ℕ) (theta phi lambda : Option ℕ) → u_of (f q) theta phi lambda ≡ by f (u_of q theta phi lambda)
 u_of-renamed f q (Some theta) (Some phi) (Some lambda) = refl
-u_of-renamed f q (Some theta) (Some phi) None = refl
-u_of-renamed f q (Some theta) None lambda = refl
-u_of-renamed f q None phi lambda = refl
+u_of-renamed f q _ _ _ = refl
 
 u-renamed : (f : ℕ → ℕ) (angles : List Angle) (qubits : List ℕ) → u_events angles (map f qubits) ≡ by f (u_events angles qubits)
-u-renamed f [] qubits = refl
-u-renamed f (theta ∷ []) qubits = refl
-u-renamed f (theta ∷ phi ∷ []) qubits = refl
-u-renamed f (theta ∷ phi ∷ lambda ∷ []) [] = refl
 u-renamed f (theta ∷ phi ∷ lambda ∷ []) (q ∷ []) = u_of-renamed f q (phase_of_angle theta) (phase_of_angle phi) (phase_of_angle lambda)
-u-renamed f (theta ∷ phi ∷ lambda ∷ []) (q ∷ r ∷ qubits) = refl
-u-renamed f (theta ∷ phi ∷ lambda ∷ more ∷ angles) qubits = refl
+u-renamed f _ _ = refl
 
 cx-renamed : (f : ℕ → ℕ) (qubits : List ℕ) → cx_events (map f qubits) ≡ by f (cx_events qubits)
-cx-renamed f [] = refl
-cx-renamed f (q ∷ []) = refl
 cx-renamed f (control ∷ target ∷ []) = refl
-cx-renamed f (q ∷ r ∷ s ∷ qubits) = refl
+cx-renamed f _ = refl
 
 index-renamed : (f : ℕ → ℕ) (qubits : List ℕ) (place : ℕ) → f 0 ≡ 0 → slice_index_or (map f qubits) place 0 ≡ f (slice_index_or qubits place 0)
 index-renamed f [] place none = sym none
@@ -90,8 +81,7 @@ body-renamed scope form depth angles f qubits later (BodyApplied a ∷ body) h s
 meaning-renamed : (scope : Scope) (m : Meaning) (depth : ℕ) (angles : List Angle) (f : ℕ → ℕ) (qubits later : List ℕ) → ByPlaces scope → AreRenamed f qubits later
     → expand_meaning (λ n d a q. expand_declared scope n d a q) m depth angles later ≡ by f (expand_meaning (λ n d a q. expand_declared scope n d a q) m depth angles qubits)
 meaning-renamed scope (Gate form) depth angles f qubits later h same = body-renamed scope form depth angles f qubits later form.body h same
-meaning-renamed scope (Qubits first size) depth angles f qubits later h same = refl
-meaning-renamed scope (Bits first size) depth angles f qubits later h same = refl
+meaning-renamed scope _ depth angles f qubits later h same = refl
 
 if-renamed : (b : Bool) (f : ℕ → ℕ) (x y later more : List Event) → later ≡ by f x → more ≡ by f y → (if b then later else more) ≡ by f (if b then x else y)
 if-renamed true f x y later more h k = h
@@ -127,20 +117,17 @@ count-renamed f (Undefined cause ∷ events) = count-renamed f events
 count-renamed f (Applied gate ∷ events) = count-renamed f events
 
 pub wrong-renamed : (most calls : ℕ) (f : ℕ → ℕ) (events : List Event) → first_wrong most calls (by f events) ≡ first_wrong most calls events
-wrong-renamed most calls f [] = refl
 wrong-renamed most calls f (Called depth ∷ events) =
     ap (λ o. if nat_le most calls then Some TooManyGates else if nat_lt deepest depth then Some TooDeep else o) (wrong-renamed most (calls + 1) f events)
-wrong-renamed most calls f (Undefined cause ∷ events) = refl
 wrong-renamed most calls f (Applied gate ∷ events) = wrong-renamed most calls f events
+wrong-renamed most calls f _ = refl
 
 -- ---- faults and the calls before
 
 called-later : (many deep fewer : Bool) (all later : Option Cause) → (if many then Some TooManyGates else (if deep then Some TooDeep else all)) ≡ None → fewer ≡ false
     → (all ≡ None → later ≡ None) → (if fewer then Some TooManyGates else (if deep then Some TooDeep else later)) ≡ None
-called-later true deep fewer all later h e k = absurd (cc)
-called-later false true fewer all later h e k = absurd (cc)
-called-later false false true all later h e k = absurd (cc)
 called-later false false false all later h e k = k h
+called-later _ _ _ all later h e k = absurd (cc)
 
 -- events that have no fault have none where the calls are within the most
 pub faultless-elsewhere : (most calls before : ℕ) (events : List Event) → first_wrong most calls events ≡ None → before + call_count events ≤ most → first_wrong most before events ≡ None

@@ -2,13 +2,13 @@
 use Rattle.std.proofs.Common.{◌≡◌, ℕ, zero, suc, ◌+◌, ◌-◌, ◌≤◌, ◌<◌, ◌==◌, nat_le, nat_lt, Bool, true, false, ◌||◌, ◌&&◌, List, [], ◌∷◌, map, None, Some, refl, sym, ap, ap₂, ◌∙◌, arith}
 use Rattle.std.specs.List.{range_with_len}
 use Rattle.std.proofs.Math.Nat.{zero-add}
-use Rattle.std.proofs.lemmas.Bool.{false_from_ne_true}
+use Rattle.std.proofs.lemmas.Bool.{false_from_ne_true, both_ways}
 use Rattle.std.proofs.lemmas.Bool.Decides.{nat_tests}
 use Rattle.zx_model.specs.Bits.{member}
 use Rattle.zx_bits.specs.Rows.{IsFirstFrom}
 use Rattle.qasm_scope.specs.Applications.{Range, Single, Register, element_at}
 use Rattle.qasm_scope.specs.Measurements.{are_unlike, bits_of, count_in, holds, holds_any, measures_of, qubits_of}
-use Rattle.qasm_unroll.proofs.MemberLemmas.{Once, any-member, any-none, not_both}
+use Rattle.qasm_unroll.proofs.MemberLemmas.{Once, any-member, any-none}
 
 -- all of them
 abbrev pub places : Range → ℕ → List ℕ
@@ -51,7 +51,7 @@ places-held (Register first size) number h = sym (ap (λ m. nat_le first number 
 -- where a range has none of the numbers, none of its own is among them
 pub places-apart : (t : Range) (numbers : List ℕ) → holds_any numbers t ≡ false → (number : ℕ) → member number (places t (count_in t)) ≡ true → member number numbers ≡ false
 places-apart t numbers none number m =
-    false_from_ne_true (member number numbers) (λ k. not_both (holds_any numbers t) (any-member (holds t) number numbers k (places-held t number m)) none)
+    false_from_ne_true (member number numbers) (λ k. both_ways (holds_any numbers t) none (any-member (holds t) number numbers k (places-held t number m)))
 
 qubits-at : (from to : Range) (indices : List ℕ) → qubits_of (map (λ index. record { qubit = element_at index from; bit = element_at index to }) indices) ≡ map (λ index. element_at index from) indices
 qubits-at from to [] = refl
@@ -63,9 +63,8 @@ bits-at from to (index ∷ indices) = ap (λ qs. element_at index to ∷ qs) (bi
 
 pub same-count : (from to : Range) → are_unlike from to ≡ false → count_in from ≡ count_in to
 same-count (Single qubit) (Single bit) h = refl
-same-count (Single qubit) (Register first size) h = absurd (cc)
-same-count (Register first size) (Single bit) h = absurd (cc)
 same-count (Register first size) (Register other bits) h = grind (arith, nat_tests)
+same-count _ _ h = absurd (cc)
 
 -- the qubits and the bits of a measurement are those of its ranges
 pub measured-qubits : (from to : Range) → qubits_of (measures_of from to) ≡ places from (count_in from)
@@ -85,7 +84,7 @@ none-before set first size none = any-none (holds (Register first size)) set (λ
     false_from_ne_true (holds (Register first size) number) (λ k.
     let low : first ≤ number = grind (arith, nat_tests) in
     let high : number < first + size = grind (arith, nat_tests) in
-    not_both (member number set) m (none number low high)))
+    both_ways (member number set) (none number low high) m))
 
 first-at : (b : Bool) (set : List ℕ) (first size place : ℕ) → nat_lt (place - first) size ≡ b → IsFirstFrom (λ number. member number set) first (Some place)
     → b ≡ holds_any set (Register first size)

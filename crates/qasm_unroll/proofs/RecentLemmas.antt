@@ -10,7 +10,6 @@ use Rattle.qasm_scope.specs.Calls.{first_wrong}
 use Rattle.qasm_scope.specs.Faults.{has_other_size, wrong_behind, wrong_in}
 use Rattle.qasm_scope.specs.Meaning.{most_calls}
 use Rattle.qasm_names.specs.declared.gates.CalledGate.{CalledGate}
-use Rattle.qasm_names.specs.declared.gates.CalledGate.TheVariants as called_gate
 use Rattle.qasm_names.specs.declared.names.Names.{Names}
 use Rattle.qasm_names.specs.Checks.{Symbols}
 use Rattle.qasm_names.specs.Kept.{gate_count}

@@ -29,21 +29,19 @@ lies-more (Some register) limit more h k = omega arith
 qubits-at : (b replaceable : Bool) (m : Meaning) (scope : Scope) (rest : Option Meaning) → IsSoundMeaning scope m replaceable → LiesBelow (qubit_count scope) (qubit_register rest)
     → LiesBelow (qubits_in m + qubit_count scope) (qubit_register (if b then Some m else rest))
 qubits-at true replaceable (Qubits first size) scope rest sound h = let place = sound.0.after_others in omega arith
-qubits-at true replaceable (Bits first size) scope rest sound h = tt
-qubits-at true replaceable (Gate form) scope rest sound h = tt
 qubits-at false replaceable m scope rest sound h = lies-more (qubit_register rest) (qubit_count scope) (qubits_in m + qubit_count scope) (omega arith) h
+qubits-at true replaceable _ scope rest sound h = tt
+
+bits-at : (b replaceable : Bool) (m : Meaning) (scope : Scope) (rest : Option Meaning) → IsSoundMeaning scope m replaceable → LiesBelow (bit_count scope) (bit_register rest)
+    → LiesBelow (bits_in m + bit_count scope) (bit_register (if b then Some m else rest))
+bits-at true replaceable (Bits first size) scope rest sound h = let place = sound.0.after_others in omega arith
+bits-at false replaceable m scope rest sound h = lies-more (bit_register rest) (bit_count scope) (bits_in m + bit_count scope) (omega arith) h
+bits-at true replaceable _ scope rest sound h = tt
 
 -- the registers of a sound scope lie below its number of qubits or bits
 pub register-below : (name : List ℕ) (scope : Scope) → IsSound scope → LiesBelow (qubit_count scope) (qubit_register (meaning_of name scope))
 register-below name [] sound = tt
 register-below name (d ∷ scope) sound = qubits-at (bytes_eq d.name name) d.replaceable d.meaning scope (meaning_of name scope) sound.0 (register-below name scope sound.2)
-
-bits-at : (b replaceable : Bool) (m : Meaning) (scope : Scope) (rest : Option Meaning) → IsSoundMeaning scope m replaceable → LiesBelow (bit_count scope) (bit_register rest)
-    → LiesBelow (bits_in m + bit_count scope) (bit_register (if b then Some m else rest))
-bits-at true replaceable (Bits first size) scope rest sound h = let place = sound.0.after_others in omega arith
-bits-at true replaceable (Qubits first size) scope rest sound h = tt
-bits-at true replaceable (Gate form) scope rest sound h = tt
-bits-at false replaceable m scope rest sound h = lies-more (bit_register rest) (bit_count scope) (bits_in m + bit_count scope) (omega arith) h
 
 pub bits-below : (name : List ℕ) (scope : Scope) → IsSound scope → LiesBelow (bit_count scope) (bit_register (meaning_of name scope))
 bits-below name [] sound = tt
@@ -67,13 +65,11 @@ pub few-bits : (name : List ℕ) (scope : Scope) → IsSound scope → LiesBelow
 few-bits name scope sound = lies-more (bit_register (meaning_of name scope)) (bit_count scope) most_bits (few-sound scope sound).1 (bits-below name scope sound)
 
 pub span-at : (limit : ℕ) (register : Option (ℕ × ℕ)) (index : Option (List ℕ)) → limit < 2 ^ 64 → LiesBelow limit register → is_past register index ≡ false → span_in register index ≡ range_in register index
-span-at limit None None large few h = refl
-span-at limit None (Some text) large few h = refl
-span-at limit (Some register) None large few h = refl
 span-at limit (Some register) (Some text) large few h =
     let within : numeral text < register.1 = grind (arith, nat_tests) in
     let same : min (register.0 + min (numeral text) (2 ^ 64 - 1)) (2 ^ 64 - 1) ≡ register.0 + numeral text = omega arith in
     ap Single same
+span-at limit _ _ large few h = refl
 
 -- an argument stands for its qubits
 pub span-range : (scope : Scope) (o : Operand) → IsSound scope → has_past_index (lookup_in scope) o ≡ false → span_of (lookup_in scope) o ≡ range_of (lookup_in scope) o
@@ -87,14 +83,12 @@ barrier_cause unknown past =
 
 -- what is wrong with a barrier
 barrier-at : (unknown past : Bool) → (unknown || past) ≡ true → barrier_cause unknown past ≡ Some (if unknown then cause.Unknown else cause.Index)
-barrier-at true past h = refl
-barrier-at false true h = refl
 barrier-at false false h = absurd (cc)
+barrier-at _ _ h = refl
 
 barrier-clear : (unknown past : Bool) → (unknown || past) ≡ false → barrier_cause unknown past ≡ None
-barrier-clear true past h = absurd (cc)
-barrier-clear false true h = absurd (cc)
 barrier-clear false false h = refl
+barrier-clear _ _ h = absurd (cc)
 
 barrier-kept : (symbols : Symbols) (scope : Scope) (operands : List Operand) → AreNames symbols scope
     → wrong_in scope (Barrier operands) ≡ barrier_cause (list_any (has_no_register (lookup_by symbols)) operands) (list_any (has_past_index (lookup_by symbols)) operands)

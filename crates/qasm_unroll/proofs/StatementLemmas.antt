@@ -23,9 +23,8 @@ unfolding wrong_in
 wrong-if scope register value action = refl
 
 or-none : (first second : Option Cause) → option_or first (option_or second None) ≡ option_or first second
-or-none (Some cause) second = refl
-or-none None (Some cause) = refl
 or-none None None = refl
+or-none _ second = refl
 
 -- a measurement makes no call
 pub measured-wrong : (scope : Scope) (measured : List Measure) (calls : ℕ) (from to : Operand)

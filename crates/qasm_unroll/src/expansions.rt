@@ -18,15 +18,43 @@ pub struct Expansion {
     pub calls: usize,
 }
 
+/// What is known of a gate's calls without angles.
+#[derive(Drop)]
+pub enum Known {
+    /// Nothing yet: the gate wasn't called so far.
+    Untried,
+    /// That nothing is kept of them: something is wrong in such a call, or it makes too many calls.
+    Nothing,
+    /// What they come to.
+    Kept(Expansion),
+}
+
+impl Known {
+    /// Whether the gate wasn't called so far.
+    pub fn is_untried(&self) -> bool {
+        matches!(self, Known::Untried)
+    }
+
+    /// What is known where the calls come to this, or nothing is kept of them.
+    pub fn new(found: Option<Expansion>) -> Known
+        ensures { (kept : Expansion) → result ≡ Known.Kept kept → found ≡ Some kept }
+    {
+        match found {
+            Some(kept) => Known::Kept(kept),
+            None => Known::Nothing,
+        }
+    }
+}
+
 /// What a call of this gate comes to, where that is kept.
-pub fn known_expansion(known: &[Option<Expansion>], called: CalledGate) -> Option<&Expansion>
-    ensures { IfSome result (λ kept. known_of known.now called ≡ Some (Some kept.now)) }
+pub fn known_expansion(known: &[Known], called: CalledGate) -> Option<&Expansion>
+    ensures { IfSome result (λ kept. known_of known.now called ≡ Some (Known.Kept kept.now)) }
 {
     let CalledGate::Gate(number) = called else {
         return None;
     };
     match known.get(number) {
-        Some(Some(kept)) => Some(kept),
+        Some(Known::Kept(kept)) => Some(kept),
         _ => None,
     }
 }

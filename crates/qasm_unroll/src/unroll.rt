@@ -11,7 +11,7 @@ ghost use Rattle.qasm_names.specs.declared.gates.GateBody.{GateBody};
 ghost use Rattle.qasm_scope.specs.Meaning.{most_calls};
 
 use crate::applications::Span;
-use crate::expansions::{Expansion, known_expansion, push_placed};
+use crate::expansions::{Expansion, Known, known_expansion, push_placed};
 use crate::values::{push_instance, push_picked, push_values, sixteenth_of};
 use qasm_angle::{Angle, Expr};
 use qasm_names::{CalledGate, GateBody, GateCall, StatementError};
@@ -66,8 +66,8 @@ pub struct Unrolled {
     angles: Vec<Angle>,
     /// Their qubits, in the same way.
     qubits: Vec<Qubit>,
-    /// What calls without angles come to, by the gate's number, where that is kept.
-    known: Vec<Option<Expansion>>,
+    /// What calls without angles come to, by the gate's number.
+    known: Vec<Known>,
 }
 
 impl Unrolled {
@@ -98,16 +98,21 @@ impl Unrolled {
         self.gates
     }
 
-    /// Learns what calls without angles come to, of the gates up to this one of which it isn't known yet.
+    /// Learns what calls of this gate without angles come to, where that isn't known yet.
     pub fn learn(&mut self, gates: &[GateBody], called: CalledGate) -> Result<(), AllocError>
         ensures known { OnOk result ((numbered : Numbered) → Unrolls gates.now numbered
             → AreKnown numbered (length gates.now) self.old.known.items
             → AreKnown numbered (length gates.now) self.new.known.items) }
         ensures others { OnOk result (self.new ≡ record self.old { known = self.new.known }) }
     {
-        for number in self.known.len()..needed(gates, called) {
-            let kept = expansion(self.alloc, gates, number)?;
-            self.known.push(kept)?;
+        for _number in self.known.len()..needed(gates, called) {
+            self.known.push(Known::Untried)?;
+        }
+        let CalledGate::Gate(number) = called else {
+            return Ok(());
+        };
+        if number < self.known.len() && self.known[number].is_untried() {
+            self.known[number] = Known::new(expansion(self.alloc, gates, number)?);
         }
         Ok(())
     }
@@ -410,7 +415,7 @@ impl Unrolled {
     }
 }
 
-// Of how many of the first gates it is to be known what calls come to, where this one is called.
+// How many of the first gates have a place in what is known, where this one is called.
 fn needed(gates: &[GateBody], called: CalledGate) -> usize
     ensures { result ≤ length gates.now }
 {

@@ -229,6 +229,20 @@ module _ (scope next end : Scope) (line text : List ℕ) (s : Sentence) (gates :
   line_where false l d c place =
       then_more place scope next end [] [] measures line text s [] gates 0 count count (l place) (d refl) (c (place + length line)) (omega arith)
 
+-- what declares and applies nothing does nothing else
+declares : (scope next : Scope) (s : Sentence) → wrong_in scope s ≡ None → wrong_behind scope [] s ≡ None → events_of scope s ≡ [] → measured_by scope s ≡ []
+    → instances_in scope s ≡ 0 → after_statement scope s ≡ next → Does scope [] s next [] [] 0
+declares scope next s fine behind events measures count after = record {
+  fine = fine;
+  fine_behind = behind;
+  calm = ap are_calm events;
+  few = omega (arith, ap call_count events);
+  next_is = after;
+  gates_are = ap applied events;
+  measures_are = measures;
+  count_is = count;
+}
+
 abbrev register : ℕ → Sentence
 register n = QubitRegister (codes "q") (decimal n)
 
@@ -252,16 +266,8 @@ register_fine n few some value =
 register_does : (n : ℕ) → n ≤ most_qubits → (n == 0) ≡ false → Does (with_header []) [] (register n) (register_scope n) [] [] 0
 register_does n few some =
     let value : numeral (decimal n) ≡ n = numeral-decimal n (omega arith) in
-    record {
-      fine = register_fine n few some value;
-      fine_behind = refl;
-      calm = refl;
-      few = omega arith;
-      next_is = ap₂ (λ a b. declared (codes "q") (Qubits a b) ∷ with_header []) no_qubits value;
-      gates_are = refl;
-      measures_are = refl;
-      count_is = refl;
-    }
+    declares (with_header []) (register_scope n) (register n) (register_fine n few some value) refl refl refl refl
+    (ap₂ (λ a b. declared (codes "q") (Qubits a b) ∷ with_header []) no_qubits value)
 
 -- with a register of qubits or without
 free : (empty : Bool) (n : ℕ) → is_taken (codes "c") (if empty then with_header [] else register_scope n) ≡ false
@@ -289,16 +295,8 @@ bits_do : (n m : ℕ) → m ≤ most_bits → (m == 0) ≡ false → Does (qubit
 bits_do n m few some =
     let value : numeral (decimal m) ≡ m = numeral-decimal m (omega arith) in
     let none : bit_count (qubits_scope n) ≡ 0 = bits_before (n == 0) n in
-    record {
-      fine = bits_fine n m few some value none;
-      fine_behind = refl;
-      calm = refl;
-      few = omega arith;
-      next_is = ap₂ (λ a b. declared (codes "c") (Bits a b) ∷ qubits_scope n) none value;
-      gates_are = refl;
-      measures_are = refl;
-      count_is = refl;
-    }
+    declares (qubits_scope n) (declared (codes "c") (Bits 0 m) ∷ qubits_scope n) (bit_register m) (bits_fine n m few some value none) refl refl refl refl
+    (ap₂ (λ a b. declared (codes "c") (Bits a b) ∷ qubits_scope n) none value)
 
 -- ---- the whole, behind the version
 abbrev header : Sentence
@@ -309,16 +307,7 @@ unfolding wrong_in
 header_fine = refl
 
 header_does : Does [] [] header (with_header []) [] [] 0
-header_does = record {
-  fine = header_fine;
-  fine_behind = refl;
-  calm = refl;
-  few = omega arith;
-  next_is = refl;
-  gates_are = refl;
-  measures_are = refl;
-  count_is = refl;
-}
+header_does = declares [] (with_header []) header header_fine refl refl refl refl refl
 
 pub text_does : (n m : ℕ) (gates : List Gate) (measured : List Measure) → n ≤ most_qubits → m ≤ most_bits
     → All (IsGateOn n) gates → All (IsMeasureOn n m) measured → IsDistinct ◌==◌ (qubits_of measured) → IsDistinct ◌==◌ (bits_of measured)

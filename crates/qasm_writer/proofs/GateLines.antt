@@ -32,7 +32,7 @@ use Rattle.qasm_scope.specs.Internal.Numerals.{numeral_from}
 use Rattle.qasm_writer.specs.Elements.{elements}
 use Rattle.qasm_writer.specs.Written.{gate_line, on_one, on_two}
 use Rattle.qasm_writer.proofs.Lines.{IsLine, on_one_line, on_two_line, u1_text, over_text, times_text, IsDigit, over_line, times_line}
-use Rattle.qasm_writer.proofs.Statements.{application, apply, operand, pi_over, pi_times_over, register_scope, written_scope, in_both, also_one, also_two, Comes, are_calm, h_comes, x_comes, t_comes, s_comes, z_comes, sdg_comes, tdg_comes, u1_comes, cx_comes, cz_comes}
+use Rattle.qasm_writer.proofs.Statements.{application, apply, operand, pi_over, pi_times_over, register_scope, written_scope, in_both, also_one, also_two, Comes, are_calm, u1_comes, cx_comes, cz_comes, words_come}
 
 -- ---- numerals
 own : IsNumeralModel (λ ds. all_ascii_digits ds ≡ true) (numeral_from 0)
@@ -69,6 +69,9 @@ pub record IsGateLine (place : ℕ) (scope : Scope) (gate : Gate) : Type 0 where
 abbrev pub AllFrom : (P : ℕ → Type 0) → ℕ → ℕ → Type 0
 AllFrom P first zero = Unit {0}
 AllFrom P first (suc count) = P first × AllFrom P (suc first) count
+
+one_more : {A B : Type 0} → A → B → A × B
+one_more here later = (here, later)
 
 pub from_all : (P : ℕ → Type 0) (first count : ℕ) → AllFrom P first count → (k : ℕ) → first ≤ k → k < first + count → P k
 from_all P first zero all k from below = absurd (omega arith)
@@ -108,10 +111,10 @@ module _ (place n m q : ℕ) (few : n ≤ most_qubits) (below : q < n) where
   word_is name gate e other word identifier comes = one_is name name [] gate e other (on_one_line place name word identifier q small) comes
 
   h_is : IsGateLine place (written_scope n m) (H q)
-  h_is = word_is (codes "h") (H q) refl refl refl refl (h_comes n (decimal q) q is in_range)
+  h_is = word_is (codes "h") (H q) refl refl refl refl (words_come n (decimal q) q is in_range).0
 
   not_is : IsGateLine place (written_scope n m) (Not q)
-  not_is = word_is (codes "x") (Not q) refl refl refl refl (x_comes n (decimal q) q is in_range)
+  not_is = word_is (codes "x") (Not q) refl refl refl refl (words_come n (decimal q) q is in_range).1.0
 
   -- the angle as the line has it is k sixteenth turns
   abbrev IsAngle : Formula → ℕ → Type 0
@@ -134,52 +137,22 @@ module _ (place n m q : ℕ) (few : n ≤ most_qubits) (below : q < n) where
 
   phases : AllFrom (λ k. IsGateLine place (written_scope n m) (Phase q k)) 1 (turn - 1)
   unfolding digits with_header angle_of values.applied gcd lowest limited phase_of_angle literals.literal_value literals.decimal
-  phases = (
-    over_is 56 1 (refl, refl, refl) refl (refl, refl),
-    (
-      word_is (codes "t") (Phase q eighth_turn) refl refl refl refl (t_comes n (decimal q) q is in_range),
-      (
-        times_is (codes "3") 56 3 refl refl (refl, refl, refl) refl (refl, refl),
-        (
-          word_is (codes "s") (Phase q quarter_turn) refl refl refl refl (s_comes n (decimal q) q is in_range),
-          (
-            times_is (codes "5") 56 5 refl refl (refl, refl, refl) refl (refl, refl),
-            (
-              times_is (codes "3") 52 6 refl refl (refl, refl, refl) refl (refl, refl),
-              (
-                times_is (codes "7") 56 7 refl refl (refl, refl, refl) refl (refl, refl),
-                (
-                  word_is (codes "z") (Phase q half_turn) refl refl refl refl (z_comes n (decimal q) q is in_range),
-                  (
-                    times_is (codes "9") 56 9 refl refl (refl, refl, refl) refl (refl, refl),
-                    (
-                      times_is (codes "5") 52 10 refl refl (refl, refl, refl) refl (refl, refl),
-                      (
-                        times_is (codes "11") 56 11 refl refl (refl, refl, refl) refl (refl, refl),
-                        (
-                          word_is (codes "sdg") (Phase q (half_turn + quarter_turn)) refl refl refl refl (sdg_comes n (decimal q) q is in_range),
-                          (
-                            times_is (codes "13") 56 13 refl refl (refl, refl, refl) refl (refl, refl),
-                            (
-                              word_is (codes "tdg") (Phase q (opposite_phase eighth_turn)) refl refl refl refl (tdg_comes n (decimal q) q is in_range),
-                              (
-                                times_is (codes "15") 56 15 refl refl (refl, refl, refl) refl (refl, refl),
-                                tt,
-                              ),
-                            ),
-                          ),
-                        ),
-                      ),
-                    ),
-                  ),
-                ),
-              ),
-            ),
-          ),
-        ),
-      ),
-    ),
-  )
+  phases =
+      one_more (over_is 56 1 (refl, refl, refl) refl (refl, refl))
+      (one_more (word_is (codes "t") (Phase q eighth_turn) refl refl refl refl (words_come n (decimal q) q is in_range).1.1.1.1.1.0)
+      (one_more (times_is (codes "3") 56 3 refl refl (refl, refl, refl) refl (refl, refl))
+      (one_more (word_is (codes "s") (Phase q quarter_turn) refl refl refl refl (words_come n (decimal q) q is in_range).1.1.1.0)
+      (one_more (times_is (codes "5") 56 5 refl refl (refl, refl, refl) refl (refl, refl))
+      (one_more (times_is (codes "3") 52 6 refl refl (refl, refl, refl) refl (refl, refl))
+      (one_more (times_is (codes "7") 56 7 refl refl (refl, refl, refl) refl (refl, refl))
+      (one_more (word_is (codes "z") (Phase q half_turn) refl refl refl refl (words_come n (decimal q) q is in_range).1.1.0)
+      (one_more (times_is (codes "9") 56 9 refl refl (refl, refl, refl) refl (refl, refl))
+      (one_more (times_is (codes "5") 52 10 refl refl (refl, refl, refl) refl (refl, refl))
+      (one_more (times_is (codes "11") 56 11 refl refl (refl, refl, refl) refl (refl, refl))
+      (one_more (word_is (codes "sdg") (Phase q (half_turn + quarter_turn)) refl refl refl refl (words_come n (decimal q) q is in_range).1.1.1.1.0)
+      (one_more (times_is (codes "13") 56 13 refl refl (refl, refl, refl) refl (refl, refl))
+      (one_more (word_is (codes "tdg") (Phase q (opposite_phase eighth_turn)) refl refl refl refl (words_come n (decimal q) q is in_range).1.1.1.1.1.1.0)
+      (one_more (times_is (codes "15") 56 15 refl refl (refl, refl, refl) refl (refl, refl)) tt))))))))))))))
 
   phase_is : (k : ℕ) → k ≢ 0 → k < turn → IsGateLine place (written_scope n m) (Phase q k)
   phase_is k turned below_a_turn = from_all (λ k. IsGateLine place (written_scope n m) (Phase q k)) 1 (turn - 1) phases k (omega arith) (omega arith)

@@ -55,11 +55,8 @@ scaled_line n (Cx control target) on = scaled-refl n (act (Cx control target))
 scaled_line n (Not q) on = scaled_gate n (elementary.U q half_turn 0 half_turn) on.0
 
 within_line : (gate : Gate) → IsWithin 4 (line_scalar gate)
-within_line (H q) = omega arith
-within_line (Phase q k) = omega arith
-within_line (Cz q r) = omega arith
 within_line (Cx control target) = omega arith
-within_line (Not q) = omega arith
+within_line _ = omega arith
 
 -- ---- the loop over the gates
 -- what holds after the first gates

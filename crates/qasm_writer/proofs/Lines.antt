@@ -14,10 +14,10 @@ use Rattle.qasm_lexer.proofs.Pieces.{ends_sign, long_sign_piece}
 use Rattle.qasm_lexer.proofs.Feeds.{IsCut-append}
 use Rattle.qasm_lexer.proofs.Scan.{IsCut-tokens_of}
 use Rattle.qasm_reader.specs.Depth.{too_deep, too_deep_from}
-use Rattle.qasm_reader.specs.Grammar.{IsProgram, IsStatement, IsArgument, IsArguments, IsAngles, IsExpression, BeginsAt, OneTerm, Product, Quotient, OnePower, OneFactor, WholeNumber, PiWord, Sign, Word, IsIdentifier, IsIndex, ◌⋅◌}
+use Rattle.qasm_reader.specs.Grammar.{IsProgram, IsStatement, IsArgument, IsArguments, IsAngles, IsExpression, BeginsAt, OneTerm, Product, Quotient, OnePower, OneFactor, WholeNumber, PiWord, Sign, Word, IsIdentifier, IsIndex, IsNatural, ◌⋅◌}
 use Rattle.qasm_reader.specs.Syntax.{Formula, Operand, Sentence, Version, Include, QubitRegister, BitRegister, Placed}
 use Rattle.qasm_writer.specs.Written.{bit_name, measure_line, on_one, on_two, qubit_name}
-use Rattle.qasm_writer.proofs.Statements.{application, measurement, operand, pi_over, pi_times_over}
+use Rattle.qasm_writer.proofs.Statements.{application, bit_operand, measurement, operand, pi_over, pi_times_over}
 
 -- ---- texts and programs
 -- the line at a place is this statement
@@ -50,15 +50,23 @@ line_then place line after s program l m = record {
 }
 
 -- ---- grammar
+-- a sign or a word and what follows, and a sign behind what stands before
+sign_then : (k : TokenKind) (Back : List Lexeme → Type 0) (t : Lexeme) (vs : List Lexeme) → t.kind ≡ k → Back vs → (Sign k ⋅ Back) (t ∷ vs)
+sign_then k Back t vs is back = (t ∷ [], vs, refl, (t, is, refl), back)
+
+word_then : (k : TokenKind) (text : List ℕ) (Back : List Lexeme → Type 0) (t : Lexeme) (vs : List Lexeme) → t.kind ≡ k → t.text ≡ text → Back vs → (Word k text ⋅ Back) (t ∷ vs)
+word_then k text Back t vs is same back = (t ∷ [], vs, refl, (t, is, same, refl), back)
+
+then_sign : (Front : List Lexeme → Type 0) (k : TokenKind) (us : List Lexeme) (t : Lexeme) → Front us → t.kind ≡ k → (Front ⋅ Sign k) (us ++ t ∷ [])
+then_sign Front k us t front is = (us, t ∷ [], refl, front, (t, is, refl))
+
+index_is : (i : List ℕ) (a b c : Lexeme) → a.kind ≡ kind.LeftBracket → b.kind ≡ kind.Natural → b.text ≡ i → c.kind ≡ kind.RightBracket → IsIndex (Some i) (a ∷ b ∷ c ∷ [])
+index_is i a b c ka kb tb kc = sign_then kind.LeftBracket (IsNatural i ⋅ Sign kind.RightBracket) a (b ∷ c ∷ []) ka (word_then kind.Natural i (Sign kind.RightBracket) b (c ∷ []) kb tb (c, kc, refl))
+
 argument_is : (r i : List ℕ) (a b c d : Lexeme) → a.kind ≡ kind.Identifier → a.text ≡ r → b.kind ≡ kind.LeftBracket
     → c.kind ≡ kind.Natural → c.text ≡ i → d.kind ≡ kind.RightBracket → IsArgument (record { register = r; index = Some i }) (a ∷ b ∷ c ∷ d ∷ [])
-argument_is r i a b c d ka ta kb kc tc kd = (
-  a ∷ [],
-  b ∷ c ∷ d ∷ [],
-  refl,
-  (a, ka, ta, refl),
-  (b ∷ [], c ∷ d ∷ [], refl, (b, kb, refl), (c ∷ [], d ∷ [], refl, (c, kc, tc, refl), (d, kd, refl))),
-)
+argument_is r i a b c d ka ta kb kc tc kd =
+    word_then kind.Identifier r (IsIndex (Some i)) a (b ∷ c ∷ d ∷ []) ka ta (index_is i b c d kb kc tc kd)
 
 applied_is : (name : List ℕ) (angles : List Formula) (operands : List Operand) (t s : Lexeme) (us vs : List Lexeme)
     → t.kind ≡ kind.Identifier → t.text ≡ name → IsAngles angles us → IsArguments operands vs → s.kind ≡ kind.Semicolon
@@ -341,37 +349,23 @@ module _ (place n : ℕ) (word name : List ℕ) (k : TokenKind) (s : Sentence) w
 
   line_parts : (Sign k ⋅ IsIdentifier name ⋅ IsIndex (Some (decimal n)) ⋅ Sign kind.Semicolon) line_tokens
   line_parts =
-      let a : Lexeme = token k word place in
-      let b : Lexeme = token kind.Identifier name (place + 5) in
-      let c : Lexeme = token kind.LeftBracket (codes "[") (place + 6) in
-      let d : Lexeme = token kind.Natural (decimal n) (place + 7) in
-      let e : Lexeme = token kind.RightBracket (codes "]") (place + 7 + length (decimal n)) in
-      let f : Lexeme = token kind.Semicolon (codes ";") (place + 8 + length (decimal n)) in (
-        a ∷ [],
-        b ∷ c ∷ d ∷ e ∷ f ∷ [],
-        refl,
-        (a, refl, refl),
-        (
-          b ∷ [],
-          c ∷ d ∷ e ∷ f ∷ [],
-          refl,
-          (b, refl, refl, refl),
-          (
-            c ∷ d ∷ e ∷ [],
-            f ∷ [],
-            refl,
-            (c ∷ [], d ∷ e ∷ [], refl, (c, refl, refl), (d ∷ [], e ∷ [], refl, (d, refl, refl, refl), (e, refl, refl))),
-            (f, refl, refl),
-          ),
-        ),
-      )
+      let bracket : Lexeme = token kind.LeftBracket (codes "[") (place + 6) in
+      let number : Lexeme = token kind.Natural (decimal n) (place + 7) in
+      let closing : Lexeme = token kind.RightBracket (codes "]") (place + 7 + length (decimal n)) in
+      let end : Lexeme = token kind.Semicolon (codes ";") (place + 8 + length (decimal n)) in
+      sign_then k (IsIdentifier name ⋅ IsIndex (Some (decimal n)) ⋅ Sign kind.Semicolon) (token k word place) _ refl
+      (word_then kind.Identifier name (IsIndex (Some (decimal n)) ⋅ Sign kind.Semicolon) (token kind.Identifier name (place + 5)) _ refl refl
+      (then_sign (IsIndex (Some (decimal n))) kind.Semicolon (bracket ∷ number ∷ closing ∷ []) end (index_is (decimal n) bracket number closing refl refl refl refl) refl))
 
-  register_line_is : (prefix : List ℕ) → line_text ≡ prefix ++ 10 ∷ [] → ((rest : List Lexeme) → too_deep_from 0 (line_tokens ++ rest) ≡ too_deep_from 0 rest)
+  register_line_is : ((rest : List Lexeme) → too_deep_from 0 (line_tokens ++ rest) ≡ too_deep_from 0 rest)
       → is_word word ≡ true → word_kind word ≡ Some k → length word ≡ 4 → is_word name ≡ true → word_kind name ≡ Some kind.Identifier → length name ≡ 1
       → IsStatement s line_tokens → n < 2 ^ 64 → IsLine place line_text s
-  register_line_is prefix ends closed is keyword four named identifier one statement small = record {
-    prefix = prefix;
-    ends = ends;
+  register_line_is closed is keyword four named identifier one statement small = record {
+    prefix = word ++ (32 ∷ (name ++ (91 ∷ (decimal n ++ codes "];"))));
+    ends =
+        ap (λ t. word ++ (32 ∷ (name ++ (91 ∷ t)))) (sym (append_assoc (decimal n) (codes "];") (10 ∷ [])))
+        ∙ ap (λ t. word ++ (32 ∷ t)) (sym (append_assoc name (91 ∷ (decimal n ++ codes "];")) (10 ∷ [])))
+        ∙ sym (append_assoc word (32 ∷ (name ++ (91 ∷ (decimal n ++ codes "];")))) (10 ∷ []));
     tokens = line_tokens;
     cut =
         IsCut-word word (place + 4) is keyword refl (omega (arith, four))
@@ -386,24 +380,21 @@ module _ (place n : ℕ) (word name : List ℕ) (k : TokenKind) (s : Sentence) w
     statement = statement;
   }
 
--- the line of a register of qubits
+-- the line of a register of qubits, and that of one of bits
 abbrev pub register_text : ℕ → List ℕ
 register_text n = codes "qreg q[" ++ decimal n ++ codes "];\n"
 
-pub register_is : (place n : ℕ) → n < 2 ^ 64 → IsLine place (register_text n) (QubitRegister (codes "q") (decimal n))
-register_is place n small =
-    register_line_is place n (codes "qreg") (codes "q") kind.Qreg (QubitRegister (codes "q") (decimal n)) (codes "qreg q[" ++ (decimal n ++ codes "];"))
-    (ap (λ t. codes "qreg q[" ++ t) (sym (append_assoc (decimal n) (codes "];") (10 ∷ [])))) (λ rest. refl)
-    refl refl refl refl refl refl (line_parts place n (codes "qreg") (codes "q") kind.Qreg (QubitRegister (codes "q") (decimal n))) small
-
--- the line of a register of bits
 abbrev pub bits_text : ℕ → List ℕ
 bits_text m = codes "creg c[" ++ decimal m ++ codes "];\n"
 
+pub register_is : (place n : ℕ) → n < 2 ^ 64 → IsLine place (register_text n) (QubitRegister (codes "q") (decimal n))
+register_is place n small =
+    register_line_is place n (codes "qreg") (codes "q") kind.Qreg (QubitRegister (codes "q") (decimal n)) (λ rest. refl)
+    refl refl refl refl refl refl (line_parts place n (codes "qreg") (codes "q") kind.Qreg (QubitRegister (codes "q") (decimal n))) small
+
 pub bits_are : (place m : ℕ) → m < 2 ^ 64 → IsLine place (bits_text m) (BitRegister (codes "c") (decimal m))
 bits_are place m small =
-    register_line_is place m (codes "creg") (codes "c") kind.Creg (BitRegister (codes "c") (decimal m)) (codes "creg c[" ++ (decimal m ++ codes "];"))
-    (ap (λ t. codes "creg c[" ++ t) (sym (append_assoc (decimal m) (codes "];") (10 ∷ [])))) (λ rest. refl)
+    register_line_is place m (codes "creg") (codes "c") kind.Creg (BitRegister (codes "c") (decimal m)) (λ rest. refl)
     refl refl refl refl refl refl (line_parts place m (codes "creg") (codes "c") kind.Creg (BitRegister (codes "c") (decimal m))) small
 
 -- ---- the line of a measurement
@@ -442,23 +433,13 @@ measure_is place q b small slight =
       cut = subst (λ text. IsCut place text (word ∷ more)) (sym (measure-text q b)) c;
       begins = (word, more, refl, refl);
       closed = λ rest. refl;
-      statement = (
-        word ∷ [],
-        more,
-        refl,
-        (word, refl, refl),
-        (
-          qubit_tokens (place + 8) q,
-          arrow ∷ (bits ++ end ∷ []),
-          refl,
-          qubit_is (place + 8) q,
-          (
-            arrow ∷ [],
-            bits ++ end ∷ [],
+      statement =
+          sign_then kind.Measure (IsArgument (operand (decimal q)) ⋅ Sign kind.Arrow ⋅ IsArgument (bit_operand (decimal b)) ⋅ Sign kind.Semicolon) word more refl (
+            qubit_tokens (place + 8) q,
+            arrow ∷ (bits ++ end ∷ []),
             refl,
-            (arrow, refl, refl),
-            (bits, end ∷ [], refl, argument_is (codes "c") (decimal b) _ _ _ _ refl refl refl refl refl refl, (end, refl, refl)),
-          ),
-        ),
-      );
+            qubit_is (place + 8) q,
+            sign_then kind.Arrow (IsArgument (bit_operand (decimal b)) ⋅ Sign kind.Semicolon) arrow (bits ++ end ∷ []) refl
+                (then_sign (IsArgument (bit_operand (decimal b))) kind.Semicolon bits end (argument_is (codes "c") (decimal b) _ _ _ _ refl refl refl refl refl refl) refl),
+          );
     }

@@ -22,10 +22,9 @@ far : (p q : Number) → add p (add q (add q (neg p))) ≡ add q q
 far p q = add_left_comm p q (add q (neg p)) ∙ ap (add q) (add_left_comm p q (neg p) ∙ ap (add q) (add-neg p) ∙ add-zero q)
 
 two_mixed : (u : Bool → Number) (a b : Bool) → mixed (λ c. mixed u (xor a c)) b ≡ mul two (mul (sign (a && b)) (u b))
-two_mixed u false false = simp expand
 two_mixed u false true = simp expand (far (u false) (u true))
-two_mixed u true false = simp expand
 two_mixed u true true = simp expand
+two_mixed u _ _ = simp expand
 
 -- CX where the target's bit was set before
 set_cx : (i j : ℕ) (g : List Bool → Number) (x : List Bool) → j < length x → i ≢ j → (b : Bool)

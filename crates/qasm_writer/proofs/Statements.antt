@@ -1,6 +1,6 @@
 -- The statements that the lines of gates are: after the header and the register they have no fault, and come to the
 -- built-in gates of `elements`.
-use Rattle.std.specs.Prelude.{◌≡◌, ◌≢◌, ◌≤◌, if◌then◌else◌, ℕ, ◌+◌, Bool, true, false, ◌&&◌, ◌||◌, not, List, [], ◌∷◌, codes, decimal, length, nat_le, nat_lt, ◌==◌, Option, Some, None}
+use Rattle.std.specs.Prelude.{◌≡◌, ◌≢◌, ◌≤◌, if◌then◌else◌, ℕ, ◌+◌, Bool, true, false, ◌&&◌, ◌||◌, not, List, [], ◌∷◌, codes, decimal, length, map, nat_le, nat_lt, ◌==◌, Option, Some, None}
 use Rattle.std.proofs.Common.{refl, sym, ap, ap₂, ◌∙◌, arith, subst}
 use Rattle.std.proofs.lemmas.Bool.{false≢true, ne_eqb}
 use Rattle.zx_model.specs.Phase.{half_turn, quarter_turn, eighth_turn, opposite_phase}
@@ -219,47 +219,45 @@ module _ (n m : ℕ) (name : List ℕ) (angles : List Formula) (other : bytes_eq
 
 -- ---- each gate, at an index i that is the number q
 module _ (n : ℕ) (i : List ℕ) (q : ℕ) (is : 0 + numeral i ≡ q) (below : nat_le n (numeral i) ≡ false) where
-  pub h_comes : Comes (register_scope n) (application (codes "h") [] (operand i ∷ [])) (elementary.U q quarter_turn 0 half_turn ∷ [])
-  unfolding with_header angle_of values.applied gcd lowest limited phase_of_angle literals.literal_value literals.decimal
-  h_comes = on_one_comes n i (codes "h") [] (λ k. elementary.U k quarter_turn 0 half_turn ∷ [])
-      (Called 1 ∷ Called 2 ∷ Called 3 ∷ Applied (elementary.U (0 + numeral i) quarter_turn 0 half_turn) ∷ [])
-      q is below refl refl refl refl refl (omega arith) refl
+  -- gates without angles, with the three angles of U that they come to
+  abbrev Word : Type 0
+  Word = List ℕ × ℕ × ℕ × ℕ
 
-  pub x_comes : Comes (register_scope n) (application (codes "x") [] (operand i ∷ [])) (elementary.U q half_turn 0 half_turn ∷ [])
-  unfolding with_header angle_of values.applied gcd lowest limited phase_of_angle literals.literal_value literals.decimal
-  x_comes = on_one_comes n i (codes "x") [] (λ k. elementary.U k half_turn 0 half_turn ∷ [])
-      (Called 1 ∷ Called 2 ∷ Called 3 ∷ Applied (elementary.U (0 + numeral i) half_turn 0 half_turn) ∷ [])
-      q is below refl refl refl refl refl (omega arith) refl
+  abbrev words : List Word
+  words =
+      (codes "h", quarter_turn, 0, half_turn) ∷ (codes "x", half_turn, 0, half_turn) ∷ (codes "z", 0, 0, half_turn) ∷ (codes "s", 0, 0, quarter_turn)
+      ∷ (codes "sdg", 0, 0, half_turn + quarter_turn) ∷ (codes "t", 0, 0, eighth_turn) ∷ (codes "tdg", 0, 0, opposite_phase eighth_turn) ∷ []
 
-  pub t_comes : Comes (register_scope n) (application (codes "t") [] (operand i ∷ [])) (elementary.U q 0 0 eighth_turn ∷ [])
-  unfolding with_header angle_of values.applied gcd lowest limited phase_of_angle literals.literal_value literals.decimal
-  t_comes = on_one_comes n i (codes "t") [] (λ k. elementary.U k 0 0 eighth_turn ∷ [])
-      (Called 1 ∷ Called 2 ∷ Called 3 ∷ Applied (elementary.U (0 + numeral i) 0 0 eighth_turn) ∷ [])
-      q is below refl refl refl refl refl (omega arith) refl
+  abbrev found : Word → Bool × Bool × List Event
+  found w = (
+    has_unknown (lookup_in (register_scope n)) (apply w.0 [] (operand i ∷ [])),
+    has_other_shape (shape_of (lookup_in (register_scope n)) (Declared w.0)) 0 1,
+    events_of (register_scope n) (application w.0 [] (operand i ∷ [])),
+  )
 
-  pub s_comes : Comes (register_scope n) (application (codes "s") [] (operand i ∷ [])) (elementary.U q 0 0 quarter_turn ∷ [])
-  unfolding with_header angle_of values.applied gcd lowest limited phase_of_angle literals.literal_value literals.decimal
-  s_comes = on_one_comes n i (codes "s") [] (λ k. elementary.U k 0 0 quarter_turn ∷ [])
-      (Called 1 ∷ Called 2 ∷ Called 3 ∷ Applied (elementary.U (0 + numeral i) 0 0 quarter_turn) ∷ [])
-      q is below refl refl refl refl refl (omega arith) refl
+  abbrev meant : Word → Bool × Bool × List Event
+  meant w = (false, false, Called 1 ∷ Called 2 ∷ Called 3 ∷ Applied (elementary.U (0 + numeral i) w.1 w.2 w.3) ∷ [])
 
-  pub z_comes : Comes (register_scope n) (application (codes "z") [] (operand i ∷ [])) (elementary.U q 0 0 half_turn ∷ [])
+  as_meant : map found words ≡ map meant words
   unfolding with_header angle_of values.applied gcd lowest limited phase_of_angle literals.literal_value literals.decimal
-  z_comes = on_one_comes n i (codes "z") [] (λ k. elementary.U k 0 0 half_turn ∷ [])
-      (Called 1 ∷ Called 2 ∷ Called 3 ∷ Applied (elementary.U (0 + numeral i) 0 0 half_turn) ∷ [])
-      q is below refl refl refl refl refl (omega arith) refl
+  as_meant = refl
 
-  pub sdg_comes : Comes (register_scope n) (application (codes "sdg") [] (operand i ∷ [])) (elementary.U q 0 0 (half_turn + quarter_turn) ∷ [])
-  unfolding with_header angle_of values.applied gcd lowest limited phase_of_angle literals.literal_value literals.decimal
-  sdg_comes = on_one_comes n i (codes "sdg") [] (λ k. elementary.U k 0 0 (half_turn + quarter_turn) ∷ [])
-      (Called 1 ∷ Called 2 ∷ Called 3 ∷ Applied (elementary.U (0 + numeral i) 0 0 (half_turn + quarter_turn)) ∷ [])
-      q is below refl refl refl refl refl (omega arith) refl
+  abbrev pub Come : List (List ℕ × ℕ × ℕ × ℕ) → Type 0
+  Come [] = Unit {0}
+  Come (w ∷ ws) = Comes (register_scope n) (application w.0 [] (operand i ∷ [])) (elementary.U q w.1 w.2 w.3 ∷ []) × Come ws
 
-  pub tdg_comes : Comes (register_scope n) (application (codes "tdg") [] (operand i ∷ [])) (elementary.U q 0 0 (opposite_phase eighth_turn) ∷ [])
-  unfolding with_header angle_of values.applied gcd lowest limited phase_of_angle literals.literal_value literals.decimal
-  tdg_comes = on_one_comes n i (codes "tdg") [] (λ k. elementary.U k 0 0 (opposite_phase eighth_turn) ∷ [])
-      (Called 1 ∷ Called 2 ∷ Called 3 ∷ Applied (elementary.U (0 + numeral i) 0 0 (opposite_phase eighth_turn)) ∷ [])
-      q is below refl refl refl refl refl (omega arith) refl
+  come : (ws : List Word) → map found ws ≡ map meant ws → Come ws
+  come [] e = tt
+  come (w ∷ ws) e =
+      let here : found w ≡ meant w = cc in
+      let later : map found ws ≡ map meant ws = cc in (
+        on_one_comes n i w.0 [] (λ k. elementary.U k w.1 w.2 w.3 ∷ []) (meant w).2 q is below refl (ap (λ x. x.0) here) (ap (λ x. x.1) here) (ap (λ x. x.2) here) refl
+            (omega arith) refl,
+        come ws later,
+      )
+
+  pub words_come : Come words
+  words_come = come words as_meant
 
   -- u1 of an angle that is k sixteenth turns
   pub u1_comes : (f : Formula) (k : ℕ) → list_any is_unsupported (f ∷ []) ≡ false

@@ -84,11 +84,8 @@ phase_is_lowered q k some below =
     ap (phase_gates q) same ∙ ap (λ b. if b then [] else Phase q k ∷ []) (ne_eqb k 0 some)
 
 gate_lowered : (n : ℕ) (gate : Gate) → IsGateOn n gate → lowered (elements gate) ≡ gate_without_cz gate
-gate_lowered n (H q) on = refl
 gate_lowered n (Phase q k) on = ap (λ gs. gs ++ []) (phase_is_lowered q k on.0.1 on.1)
-gate_lowered n (Cz q r) on = refl
-gate_lowered n (Cx control target) on = refl
-gate_lowered n (Not q) on = refl
+gate_lowered n _ on = refl
 
 pub lowered_elements : (n : ℕ) (gates : List Gate) → All (IsGateOn n) gates → lowered (elements_of gates) ≡ without_cz gates
 lowered_elements n [] on = refl
@@ -98,11 +95,8 @@ lowered_elements n (gate ∷ gates) on =
     (lowered_elements n gates (All-tail (IsGateOn n) gate gates on))
 
 odd_gate : (gate : Gate) → gate_odd_phases (gate_without_cz gate) ≡ gate_odd_phases (gate ∷ [])
-odd_gate (H q) = refl
-odd_gate (Phase q k) = refl
-odd_gate (Cz q r) = refl
 odd_gate (Cx control target) = refl
-odd_gate (Not q) = refl
+odd_gate _ = refl
 
 pub odd_without_cz : (gates : List Gate) → gate_odd_phases (without_cz gates) ≡ gate_odd_phases gates
 odd_without_cz [] = refl

@@ -2,10 +2,12 @@
 use Rattle.std.specs.Prelude.{◌≡◌, ℕ, zero, suc, List, [], ◌∷◌, ◌++◌, length, map, Bool, Option, None, Some, Result, Ok}
 use Rattle.std.specs.Prelude.{Err, if◌then◌else◌}
 use denote.Enum.Bare.{sameb}
+use denote.Ref.{Bor}
 use Rattle.qasm_lexer.specs.contracts.token.TokenKind.{the_type}
+use Rattle.qasm_lexer.specs.declared.token.Token.{Token}
 use Rattle.qasm_lexer.specs.declared.token.TokenKind.{TokenKind}
 use Rattle.qasm_lexer.specs.declared.token.TokenKind.TheVariants as kind
-use Rattle.qasm_lexer.specs.Tokens.{Lexeme}
+use Rattle.qasm_lexer.specs.Tokens.{Lexeme, lexemes}
 use Rattle.qasm_reader.specs.declared.program.GateHeading.{GateHeading}
 use Rattle.qasm_reader.specs.declared.step_error.StepError.{StepError}
 use Rattle.qasm_reader.specs.declared.step_error.StepError.TheVariants.{Misfit, NoMemory}
@@ -22,6 +24,11 @@ Fails NoMemory read = Unit {0}
 abbrev pub Gives : {X Y : Type 0} → (X → Y) → Result X StepError → Option Y → Type 0
 Gives view (Ok x) read = read ≡ Some (view x)
 Gives view (Err e) read = Fails e read
+
+-- the same of what is read and of the tokens that follow
+abbrev pub Reads : {X Y : Type 0} → (X → Y) → Result (X × Bor (List Token)) StepError → Option (Y × List Lexeme) →
+    Type 0
+Reads view result read = Gives (λ x. (view x.0, lexemes x.1.now)) result read
 
 infixl 10 ◌>>=◌
 abbrev pub ◌>>=◌ : {A B : Type 0} → Option A → (A → Option B) → Option B
@@ -148,13 +155,26 @@ angles = optional_list take_expression
 
 -- ---- operations
 
-unfoldable pub application : List Lexeme → Option (Action × List Lexeme)
-application ts = do
+-- an item and a semicolon
+abbrev pub one : {A B : Type 0} → (List Lexeme → Option (A × List Lexeme)) → (A → B) → List Lexeme →
+    Option (B × List Lexeme)
+one item make ts = do
+  found ← item ts
+  rest ← after kind.Semicolon found.1
+  Some (make found.0, rest)
+
+-- a gate, its angles, its qubits and a semicolon
+abbrev pub apply : {A B : Type 0} → (List Lexeme → Option (A × List Lexeme)) → (Callee → List Formula → A → B) →
+    List Lexeme → Option (B × List Lexeme)
+apply qubits make ts = do
   gate ← gate_name ts
   angles ← angles gate.1
-  qubits ← arguments angles.1
-  rest ← after kind.Semicolon qubits.1
-  Some (Applied (record { gate = gate.0; angles = angles.0; qubits = qubits.0 }), rest)
+  found ← qubits angles.1
+  rest ← after kind.Semicolon found.1
+  Some (make gate.0 angles.0 found.0, rest)
+
+unfoldable pub application : List Lexeme → Option (Action × List Lexeme)
+application = apply arguments (λ gate angles qubits. Applied (record { gate = gate; angles = angles; qubits = qubits }))
 
 -- after the first word
 unfoldable pub measure : List Lexeme → Option (Action × List Lexeme)
@@ -166,10 +186,7 @@ measure ts = do
   Some (Measured from.0 to.0, end)
 
 unfoldable pub reset : List Lexeme → Option (Action × List Lexeme)
-reset ts = do
-  argument ← argument ts
-  rest ← after kind.Semicolon argument.1
-  Some (Reset argument.0, rest)
+reset = one argument Reset
 
 abbrev pub operation_by : TokenKind → List Lexeme → List Lexeme → Option (Action × List Lexeme)
 operation_by kind.Measure rest all = measure rest
@@ -183,18 +200,11 @@ operation (t ∷ ts) = operation_by t.kind ts (t ∷ ts)
 -- ---- bodies of gates
 
 unfoldable pub body_application : List Lexeme → Option (BodySentence × List Lexeme)
-body_application ts = do
-  gate ← gate_name ts
-  angles ← angles gate.1
-  qubits ← identifiers angles.1
-  rest ← after kind.Semicolon qubits.1
-  Some (BodyApplied (record { gate = gate.0; angles = angles.0; qubits = qubits.0 }), rest)
+body_application =
+    apply identifiers (λ gate angles qubits. BodyApplied (record { gate = gate; angles = angles; qubits = qubits }))
 
 abbrev pub body_barrier : List Lexeme → Option (BodySentence × List Lexeme)
-body_barrier ts = do
-  qubits ← identifiers ts
-  rest ← after kind.Semicolon qubits.1
-  Some (BodyBarrier qubits.0, rest)
+body_barrier = one identifiers BodyBarrier
 
 abbrev pub body_by : Option (List Lexeme) → List Lexeme → Option (BodySentence × List Lexeme)
 body_by None all = body_application all
@@ -214,16 +224,10 @@ body = repeated (λ ts. body_turn ts (after kind.RightBrace ts))
 -- ---- statements, after the first word
 
 unfoldable pub version : List Lexeme → Option (Sentence × List Lexeme)
-version ts = do
-  real ← text kind.Real ts
-  rest ← after kind.Semicolon real.1
-  Some (Version real.0, rest)
+version = one (text kind.Real) Version
 
 unfoldable pub include : List Lexeme → Option (Sentence × List Lexeme)
-include ts = do
-  name ← text kind.Text ts
-  rest ← after kind.Semicolon name.1
-  Some (Include name.0, rest)
+include = one (text kind.Text) Include
 
 -- name and size
 unfoldable pub register : List Lexeme → Option ((List ℕ × List ℕ) × List Lexeme)
@@ -296,10 +300,7 @@ conditional ts = do
   Some (If test.0.0 test.0.1 action.0, action.1)
 
 unfoldable pub barrier : List Lexeme → Option (Sentence × List Lexeme)
-barrier ts = do
-  qubits ← arguments ts
-  rest ← after kind.Semicolon qubits.1
-  Some (Barrier qubits.0, rest)
+barrier = one arguments Barrier
 
 abbrev pub act : List Lexeme → Option (Sentence × List Lexeme)
 act ts = do

@@ -3,7 +3,7 @@
 use Rattle.std.proofs.Common.{◌≡◌, ℕ, ◌+◌, Bool, true, false, ◌&&◌, not, eqb, List, [], ◌∷◌, ◌++◌, map, length}
 use Rattle.std.proofs.Common.{Option, None, Some, refl, sym, ap, ◌∙◌, subst, append-nil}
 use Rattle.std.specs.Prelude.{if◌then◌else◌, nat_lt}
-use Rattle.std.specs.List.{concat}
+use Rattle.std.specs.List.{concat, list_all}
 use Rattle.std.proofs.lemmas.Bool.{false≢true, and_parts, eqb-true}
 use Rattle.qasm_lexer.specs.Tokens.{Lexeme, IsCut}
 use Rattle.qasm_lexer.proofs.Building.{IsCut-nil}
@@ -131,154 +131,30 @@ line_from place line form ends e =
 
 -- ---- the lines of the header
 -- each line declares a gate, wherever it stands
-abbrev AreRead : List (List ℕ) → List GateForm → Type 0
-AreRead [] [] = Unit {0}
-AreRead [] (form ∷ forms) = ⊥
-AreRead (line ∷ lines) [] = ⊥
-AreRead (line ∷ lines) (form ∷ forms) =
-    (ends_with_feed line ≡ true) × ((place : ℕ) → reading place line ≡ Some (DeclareGate form, []))
-    × AreRead lines forms
-
-are_lines : (place : ℕ) (lines : List (List ℕ)) (forms : List GateForm) → AreRead lines forms
+are_lines : (place : ℕ) (lines : List (List ℕ)) (forms : List GateForm) → list_all ends_with_feed lines ≡ true
+    → ((place : ℕ) → map (reading place) lines ≡ map (λ form. Some (DeclareGate form, [])) forms)
     → AreLines place (concat lines) forms
-are_lines place [] [] read = no_line place
-are_lines place [] (form ∷ forms) read = absurd read
-are_lines place (line ∷ lines) [] read = absurd read
-are_lines place (line ∷ lines) (form ∷ forms) read =
-    line_then place line (concat lines) form forms (line_from place line form read.0 (read.1 place))
-    (are_lines (place + length line) lines forms read.2)
+are_lines place [] [] ends read = no_line place
+are_lines place [] (form ∷ forms) ends read = absurd (let e = read 0 in cc)
+are_lines place (line ∷ lines) [] ends read = absurd (let e = read 0 in cc)
+are_lines place (line ∷ lines) (form ∷ forms) ends read =
+    let p : (ends_with_feed line ≡ true) × (list_all ends_with_feed lines ≡ true) =
+    and_parts (ends_with_feed line) (list_all ends_with_feed lines) ends in
+    let here : (place : ℕ) → reading place line ≡ Some (DeclareGate form, []) = λ place. let e = read place in cc in
+    line_then place line (concat lines) form forms (line_from place line form p.0 (here place))
+    (are_lines (place + length line) lines forms p.1 (λ place. let e = read place in cc))
 
-first_read : AreRead first_lines first_trees
+first_read : (place : ℕ) → map (reading place) first_lines ≡ map (λ form. Some (DeclareGate form, [])) first_trees
 unfolding step finished run take_entries take_expression same_kind after text repeated comma_items comma_list
     optional_list identifiers parameters gate_name angles body_application body_statement body heading opening gate
     statement
-first_read = (
-  refl,
-  λ place. refl,
-  (
-    refl,
-    λ place. refl,
-    (
-      refl,
-      λ place. refl,
-      (
-        refl,
-        λ place. refl,
-        (
-          refl,
-          λ place. refl,
-          (
-            refl,
-            λ place. refl,
-            (
-              refl,
-              λ place. refl,
-              (
-                refl,
-                λ place. refl,
-                (
-                  refl,
-                  λ place. refl,
-                  (
-                    refl,
-                    λ place. refl,
-                    (
-                      refl,
-                      λ place. refl,
-                      (
-                        refl,
-                        λ place. refl,
-                        (
-                          refl,
-                          λ place. refl,
-                          (
-                            refl,
-                            λ place. refl,
-                            (
-                              refl,
-                              λ place. refl,
-                              (
-                                refl,
-                                λ place. refl,
-                                (
-                                  refl,
-                                  λ place. refl,
-                                  (
-                                    refl,
-                                    λ place. refl,
-                                    (
-                                      refl,
-                                      λ place. refl,
-                                      (
-                                        refl,
-                                        λ place. refl,
-                                        (refl, λ place. refl, (refl, λ place. refl, tt)),
-                                      ),
-                                    ),
-                                  ),
-                                ),
-                              ),
-                            ),
-                          ),
-                        ),
-                      ),
-                    ),
-                  ),
-                ),
-              ),
-            ),
-          ),
-        ),
-      ),
-    ),
-  ),
-)
+first_read place = refl
 
-further_read : AreRead further_lines further_trees
+further_read : (place : ℕ) → map (reading place) further_lines ≡ map (λ form. Some (DeclareGate form, [])) further_trees
 unfolding step finished run take_entries take_expression same_kind after text repeated comma_items comma_list
     optional_list identifiers parameters gate_name angles body_application body_statement body heading opening gate
     statement
-further_read = (
-  refl,
-  λ place. refl,
-  (
-    refl,
-    λ place. refl,
-    (
-      refl,
-      λ place. refl,
-      (
-        refl,
-        λ place. refl,
-        (
-          refl,
-          λ place. refl,
-          (
-            refl,
-            λ place. refl,
-            (
-              refl,
-              λ place. refl,
-              (
-                refl,
-                λ place. refl,
-                (
-                  refl,
-                  λ place. refl,
-                  (
-                    refl,
-                    λ place. refl,
-                    (refl, λ place. refl, tt),
-                  ),
-                ),
-              ),
-            ),
-          ),
-        ),
-      ),
-    ),
-  ),
-)
+further_read place = refl
 
 -- a text is the program of the declarations of these gates
 abbrev pub IsDeclared : List ℕ → List GateForm → Type 0
@@ -286,18 +162,20 @@ IsDeclared text forms =
     (program : List Placed) × IsProgramText text program
     × (map (λ s. s.sentence) program ≡ map DeclareGate forms)
 
-are_declared : (lines : List (List ℕ)) (forms : List GateForm) → AreRead lines forms → IsDeclared (concat lines) forms
-are_declared lines forms read =
-    let are : AreLines 0 (concat lines) forms = are_lines 0 lines forms read in
+are_declared : (lines : List (List ℕ)) (forms : List GateForm) → list_all ends_with_feed lines ≡ true
+    → ((place : ℕ) → map (reading place) lines ≡ map (λ form. Some (DeclareGate form, [])) forms)
+    → IsDeclared (concat lines) forms
+are_declared lines forms ends read =
+    let are : AreLines 0 (concat lines) forms = are_lines 0 lines forms ends read in
     let is : IsProgramText (concat lines) are.program =
     record { tokens = are.tokens; cut = are.cut; shallow = are.shallow; grammar = are.grammar } in
     (are.program, is, are.sentences)
 
 pub first_is : IsDeclared first_text first_trees
-first_is = are_declared first_lines first_trees first_read
+first_is = are_declared first_lines first_trees refl first_read
 
 pub further_is : IsDeclared further_text further_trees
-further_is = are_declared further_lines further_trees further_read
+further_is = are_declared further_lines further_trees refl further_read
 
 -- the gates that the texts declare
 abbrev pub first_declarations : GatesOf first_text

@@ -7,6 +7,8 @@ use Rattle.qasm_scope.specs.Calls.{Event, Called, applied, call_count, first_wro
 use Rattle.qasm_scope.specs.Meaning.{most_calls}
 use Rattle.qasm_scope.specs.Scope.{Scope}
 use Rattle.qasm_unroll.specs.declared.expansions.Expansion.{Expansion}
+use Rattle.qasm_unroll.specs.declared.expansions.Known.{Known}
+use Rattle.qasm_unroll.specs.declared.expansions.Known.TheVariants as known_call
 use Rattle.qasm_unroll.specs.declared.unroll.Unrolled.{Unrolled}
 use Rattle.qasm_unroll.specs.Internal.KeptCalls.{Numbered, expand_number}
 
@@ -19,7 +21,7 @@ abbrev pub at : List ℕ → ℕ → ℕ
 at qubits place = slice_index_or qubits place 0
 
 -- what is known of a gate that is called
-abbrev pub known_of : List (Option Expansion) → CalledGate → Option (Option Expansion)
+abbrev pub known_of : List Known → CalledGate → Option Known
 known_of known called_gate.U = None
 known_of known called_gate.Cx = None
 known_of known (called_gate.Gate number) = slice_get known number
@@ -36,9 +38,9 @@ pub record IsExpansion (numbered : Numbered) (number : ℕ) (kept : Expansion) :
       → first_wrong most_calls before (placed_events numbered number) ≡ None
 
 -- what is known is of the first so many gates, and it is what calls come to
-pub record AreKnown (numbered : Numbered) (count : ℕ) (known : List (Option Expansion)) : Type 0 where
+pub record AreKnown (numbered : Numbered) (count : ℕ) (known : List Known) : Type 0 where
   pub few : length known ≤ count
-  pub each : (number : ℕ) (kept : Expansion) → slice_get known number ≡ Some (Some kept)
+  pub each : (number : ℕ) (kept : Expansion) → slice_get known number ≡ Some (known_call.Kept kept)
       → IsExpansion numbered number kept
 
 -- so it is in a scope

@@ -1,4 +1,6 @@
-use Rattle.qasm_names.proofs.Including.{first-start, first-next, first-none}
+use Rattle.std.proofs.Common.{arith, subst}
+use Rattle.std.proofs.lemmas.List.{nil_from_length}
+use Rattle.qasm_names.proofs.Including.{FirstLeft, first-start, first-step, first-end, rest_is}
 use Rattle.qasm_names.proofs.header.declare_first.Goals as goal
 
 pub loop-rest-init : goal.loop-rest-init
@@ -7,8 +9,10 @@ loop-rest-init c = λ scope r e none.
 
 pub loop-rest-preserved : goal.loop-rest-preserved
 loop-rest-preserved c = λ scope r e none.
-    first-next c.loop-rest.names c.declare.new.names scope c.args.shared.now.base c.loop-rest.rest.now _ c.in-len1-up.len_at_least (c.loop-rest.invariant scope r e none) c.in_ok-declare.ensures
+    first-step c.loop-rest.names c.declare.new.names scope c.args.shared.now.base _ _
+    (subst (FirstLeft c.loop-rest.names scope c.args.shared.now.base) (rest_is c.loop-rest.rest.now _ c.in-len1-up.len_at_least) (c.loop-rest.invariant scope r e none)) c.in_ok-declare.ensures
 
 pub returns : goal.returns
 returns c = λ scope r e none.
-    first-none c.loop-rest.names scope c.args.shared.now.base c.loop-rest.rest.now c.in_default.len_below (c.loop-rest.invariant scope r e none)
+    first-end c.loop-rest.names scope c.args.shared.now.base
+    (subst (FirstLeft c.loop-rest.names scope c.args.shared.now.base) (nil_from_length c.loop-rest.rest.now (omega (arith, c.in_default.len_below))) (c.loop-rest.invariant scope r e none))
