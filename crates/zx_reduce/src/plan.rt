@@ -12,6 +12,10 @@ use zx_moves::pivot_cost;
 // A spider with more neighbours isn't moved along its wire at once.
 const MOST_MOVED: usize = 32;
 
+// A spider that goes with an end alone has this level, the highest: it waits until all other moves are made. So ends are
+// split along a ladder of CX, and not against it, and the flow's rows stay short.
+const LEVEL_OF_ENDS: u8 = 15;
+
 // What is to be done at a vertex.
 #[derive(Clone, Copy, Debug)]
 pub(crate) enum Plan {
@@ -89,6 +93,9 @@ fn spider_plan(g: &OpenGraph, u: VertexId, phase: Sixteenth, setting: Setting<'_
         Partner::Later(level) => Plan::Wait(level),
         Partner::Never if setting.takes_gates => Plan::Nothing,
         Partner::Never => match g.neighbours(u).next() {
+            Some(_) if level_in(setting.levels, u) < usize::from(LEVEL_OF_ENDS) => {
+                Plan::Wait(LEVEL_OF_ENDS)
+            }
             Some(v) => Plan::AtEnd(v),
             None => Plan::Nothing,
         },

@@ -96,14 +96,10 @@ impl Queue {
         Ok(())
     }
 
-    // Puts all vertices where they belong, each with the level that it has. From now on those that were put into a list
-    // first are taken first: so ends are split along a ladder of CX, and not against it, and the flow's rows stay short.
+    // Puts all vertices where they belong, each with the level that it has.
     pub(crate) fn touch_all(&mut self, g: &OpenGraph) -> Result<(), AllocError> {
         for u in g.vertices() {
             self.touch(g, u)?;
-        }
-        for list in &mut self.lists {
-            list.reverse();
         }
         Ok(())
     }
