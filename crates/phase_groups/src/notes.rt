@@ -3,7 +3,7 @@
 ghost use Rattle.std.specs.Prelude.{◌≡◌, ◌==◌, ◌&&◌, ◌||◌, ℕ, true, map, IfOk, OnOk};
 ghost use Rattle.zx_model.specs.Bits.{xor};
 ghost use Rattle.zx_model.specs.Phase.{half_turn};
-ghost use Rattle.zx_calculus.specs.Graph.{joined, is_XY, is_XZ, plane_of, phase_of, IsVertex};
+ghost use Rattle.zx_calculus.specs.Graph.{joined, is_XZ, plane_of, phase_of, IsVertex};
 ghost use Rattle.zx_calculus.specs.Steps.{FuseInto, allowed};
 ghost use Rattle.graph_rewrites.specs.Steps.{step_named};
 ghost use Rattle.teleport_laws.specs.Shifts.{negates, into_of};
@@ -111,13 +111,13 @@ fn is_negated(graph: &OpenGraph, step: &Step, v: VertexId) -> bool
             (v.get() == u.get() || graph.has_edge(*u, v)) && is_xz(graph, v)
         }
         Step::Delete(u) => {
-            (has_half_turn(graph, *u) && graph.has_edge(*u, v)) && !is_xy(graph, v)
+            (has_half_turn(graph, *u) && graph.has_edge(*u, v)) && !graph.is_xy(v)
         }
         Step::Pivot(u, w) => {
             if v.get() == u.get() || v.get() == w.get() {
                 is_xz(graph, v)
             } else {
-                (graph.has_edge(*u, v) && graph.has_edge(*w, v)) && !is_xy(graph, v)
+                (graph.has_edge(*u, v) && graph.has_edge(*w, v)) && !graph.is_xy(v)
             }
         }
         _ => false,
@@ -130,14 +130,6 @@ fn is_xz(graph: &OpenGraph, v: VertexId) -> bool
 {
     let (plane, _) = graph.weight(v);
     matches!(plane, Plane::XZ)
-}
-
-fn is_xy(graph: &OpenGraph, v: VertexId) -> bool
-    requires { IsVertex graph.now.graph v }
-    ensures { result ≡ is_XY (plane_of graph.now.graph v) }
-{
-    let (plane, _) = graph.weight(v);
-    matches!(plane, Plane::XY)
 }
 
 fn has_half_turn(graph: &OpenGraph, v: VertexId) -> bool

@@ -2,7 +2,8 @@
 //! graph of a circuit while its gates are still put behind it.
 //!
 //! Proved of `reduce_owned`: the graph is reduced, with a flow, a proportional sum, as many ends and no more odd phases;
-//! the steps of the trace lead there from the graph that was given. Proved of `grow`: some such steps lead from the
+//! the steps of the trace lead there from the graph that was given. Of `reduce_with_groups` the same, and that groups of
+//! gates, whose phases the vertices hold together, follow these steps. Proved of `grow`: some such steps lead from the
 //! circuit's graph to the reduced one, but for the names of the vertices, and the circuit's map is so many times its sum.
 //!
 //! Steps are proposed where something changed, by a queue of which nothing is promised, and each is tested before it is
@@ -17,7 +18,7 @@
 //!
 //! Inside:
 //!
-//! - `reduction`: `reduce_owned`. `growing`: `grow`, the gates and the moves between them.
+//! - `reduction`: `reduce_owned`, `reduce_with_groups`. `growing`: `grow`, the gates and the moves between them.
 //! - `engine`: which moves are made, until none is left. `progress`: the graph with the scalar so far, and what may be
 //!   done to it. `ordered`, `ranks`: the graph with the order of its flow.
 //! - `queue`, `plan`, `twins`, `levels`, `blocks`: which steps are tried, and when. Nothing is promised of them.

@@ -34,14 +34,13 @@ pub(crate) fn scalar_of(
 }
 
 // The same on any graph.
-fn scalar_of_run(graph: OpenGraph, steps: &[Step]) -> Result<Scalar, AllocError>
+fn scalar_of_run(mut graph: OpenGraph, steps: &[Step]) -> Result<Scalar, AllocError>
     requires run { MayRun graph.graph (map step_named steps.now) }
     requires few { length steps.now ≤ most_steps }
     ensures scalar { IfOk result (HaveScalar graph.graph (map step_named steps.now)) }
     ensures small { IfOk result (IsWithin (2 * length steps.now)) }
     ensures turn { IfOk result (λ s. s.turn < turn) }
 {
-    let mut graph = graph;
     let mut scalar = Scalar::one();
     for step in steps {
         scalar = scalar.times(step.do_in(&mut graph)?);
